@@ -1,0 +1,1 @@
+-- Small examples beside the table, for rules that E1 to E10 do not reach. Each holds by computing it.
