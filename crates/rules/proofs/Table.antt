@@ -213,7 +213,22 @@ outcome x =
     let end = tryAll (fresh graphKind noTables) (x .tries) in
     record { tries = end .0; root = stepHeld (getNode (end .1 .bindings) 0 .action) }
 
--- The theorem: the rules give every row its answers
-pub table-holds : map outcome table ≡ table
-unfolding open-Basics open-Values open-Tables open-Graph open-KeyLoop open-Calls tryAll stepHeld outcome table
-table-holds = refl
+-- E1 on bytes: what `keyplay` is given, and the lines that it prints
+abbrev pub E1-input : List ℕ
+E1-input =
+    0x19 ∷
+    0x01 ∷ 0x00 ∷ 0x30 ∷ 0x39 ∷ 0x00 ∷ 0x00 ∷ 0x02 ∷ 0x01 ∷ 0x00 ∷ 0x01 ∷ 0x00 ∷ 0x01 ∷ 0x00 ∷
+    0x00 ∷ 0x00 ∷ 0x01 ∷ 0x00 ∷ 0x00 ∷ 0x72 ∷ 0x00 ∷ 0x01 ∷ 0x07 ∷ 0x00 ∷ 0x00 ∷ 0x00 ∷
+    0x34 ∷ 0x32 ∷ 0x72 ∷ 0x7A ∷ []
+
+-- "action count mark", "7 42 0", "0 0 0"
+abbrev pub E1-text : List ℕ
+E1-text =
+    0x61 ∷ 0x63 ∷ 0x74 ∷ 0x69 ∷ 0x6F ∷ 0x6E ∷ 0x20 ∷ 0x63 ∷ 0x6F ∷ 0x75 ∷ 0x6E ∷ 0x74 ∷ 0x20 ∷ 0x6D ∷ 0x61 ∷ 0x72 ∷ 0x6B ∷ 0x0A ∷
+    0x37 ∷ 0x20 ∷ 0x34 ∷ 0x32 ∷ 0x20 ∷ 0x30 ∷ 0x0A ∷
+    0x30 ∷ 0x20 ∷ 0x30 ∷ 0x20 ∷ 0x30 ∷ 0x0A ∷ []
+
+-- The theorem: the rules give every row its answers, and E1's bytes their lines
+pub table-holds : (map outcome table ≡ table) × (keyplay E1-input ≡ E1-text)
+unfolding open-Basics open-Values open-Tables open-Graph open-KeyLoop open-Calls open-Numbers open-MapFile open-Run tryAll stepHeld outcome table
+table-holds = (refl, refl)

@@ -1,9 +1,9 @@
 -- Document 01, "Graph": nodes and edges, following, and adding, by the Rust's functions of `Graph` and `InputMachine`
 -- under their names and in their order of work, so that the refusals 2, 3 and 4 come as the Rust meets them.
 use Prim.Native.Nat.{ℕ, zero, suc, _+_, max}
-use mathlib.Core.Bool.{Bool, true, false, not, _&&_}
+use mathlib.Core.Bool.{Bool, true, false, _&&_}
 use mathlib.Core.Option.{Option, none, some}
-use mathlib.Core.List.{List, [], _∷_, _++_, map}
+use mathlib.Core.List.{List, [], _∷_, _++_}
 use lib.Dec.{ltb, eqb}
 use lib.ListN.{length, getD, set}
 use Rattle.rules.specs.Basics.{if_then_else_, Result, accept, refuse, _>>=_, unless, some-of}
