@@ -173,7 +173,7 @@ never : {A X : Type 0} (n : ℕ) (y : A) → refuse n ≡ accept y → X
 never n y e = absurd (let z : _≡_ {A = ℕ} 0 1 = cc in omega arith)
 
 -- below or not
-side : (b n : ℕ) → (b < n) ⊎ (n ≤ b)
+pub side : (b n : ℕ) → (b < n) ⊎ (n ≤ b)
 side b n = go (ltb b n) refl
   where
     go : (t : Bool) → ltb b n ≡ t → (b < n) ⊎ (n ≤ b)
