@@ -1,0 +1,310 @@
+//! The original's graph, with the limits of document 01: nodes, edges, following, and adding a path. The functions carry
+//! the original's names and keep its order of work, so that the first of the refusals 2, 3 and 4 met is the one that
+//! document 01 names. The roots of all modes always exist here; the original makes one when it is first asked for.
+
+use std::collections::HashMap;
+use std::sync::OnceLock;
+
+use crate::calls::{Event, Part, Repeat, Step, Tables};
+
+const ROOTS: usize = 16;
+
+/// The most nodes beside the roots, and the most edges. COMPARE_LIMITS (as "24 40") makes them small, so that short lists
+/// meet them in every place; `check-rows` then gives its copy of the rules the same limits.
+fn limits() -> (usize, usize) {
+    static LIMITS: OnceLock<(usize, usize)> = OnceLock::new();
+    *LIMITS.get_or_init(|| {
+        let Ok(words) = std::env::var("COMPARE_LIMITS") else { return (1024, 2048) };
+        let numbers: Vec<usize> = words.split(' ').map(|w| w.parse().expect("COMPARE_LIMITS: two numbers")).collect();
+        (numbers[0], numbers[1])
+    })
+}
+
+/// A value, or the number of the refusal.
+pub type Outcome<T> = Result<T, u16>;
+
+pub type NodeId = usize;
+
+#[derive(Clone)]
+pub enum NodeAction {
+    Empty,
+    Root,
+    Step(Step),
+}
+
+impl From<Option<&Step>> for NodeAction {
+    fn from(step: Option<&Step>) -> Self {
+        step.map_or(NodeAction::Empty, |s| NodeAction::Step(s.clone()))
+    }
+}
+
+#[derive(Clone)]
+pub struct Node {
+    pub mode: u16,
+    pub action: NodeAction,
+}
+
+pub enum Follow {
+    Successor(Event, NodeId),
+    Fallthrough(NodeId),
+    NoSuccessor,
+}
+
+#[derive(Clone)]
+pub struct Graph {
+    nodes: HashMap<NodeId, Node>,
+    edges: HashMap<NodeId, HashMap<Event, NodeId>>,
+    edge_count: usize,
+}
+
+impl Graph {
+    pub fn fresh() -> Self {
+        let root = |m| (m, Node { mode: m as u16, action: NodeAction::Root });
+        Graph { nodes: (0..ROOTS).map(root).collect(), edges: HashMap::new(), edge_count: 0 }
+    }
+
+    pub fn get_node(&self, id: NodeId) -> &Node {
+        &self.nodes[&id]
+    }
+
+    /// All nodes by their numbers, the roots first.
+    pub fn nodes(&self) -> Vec<&Node> {
+        (0..self.nodes.len()).map(|id| self.get_node(id)).collect()
+    }
+
+    /// All edges: start, event and end, in an order that does not depend on the hash maps.
+    pub fn edges(&self) -> Vec<(NodeId, Event, NodeId)> {
+        let of = |(&from, ends): (&NodeId, &HashMap<Event, NodeId>)| -> Vec<_> {
+            ends.iter().map(|(&ev, &to)| (from, ev, to)).collect()
+        };
+        let mut edges: Vec<_> = self.edges.iter().flat_map(of).collect();
+        edges.sort();
+        edges
+    }
+
+    /// Nodes beside the roots, and edges.
+    pub fn size(&self) -> (usize, usize) {
+        (self.nodes.len() - ROOTS, self.edge_count)
+    }
+
+    fn add_node(&mut self, mode: u16, action: NodeAction) -> Outcome<NodeId> {
+        let id = self.nodes.len();
+        if id == ROOTS + limits().0 {
+            return Err(2);
+        }
+        self.nodes.insert(id, Node { mode, action });
+        Ok(id)
+    }
+
+    fn upsert_node(&mut self, mode: u16, prev: NodeId, ev: Event, action: NodeAction) -> Outcome<NodeId> {
+        let Some(id) = self.get_edge(prev, ev) else { return self.add_node(mode, action) };
+        if matches!(action, NodeAction::Step(_)) {
+            let node = self.nodes.get_mut(&id).unwrap();
+            node.action = action;
+            if node.mode != mode {
+                return Err(4);
+            }
+        }
+        Ok(id)
+    }
+
+    fn add_edge(&mut self, from: NodeId, to: NodeId, ev: Event) -> Outcome<()> {
+        if self.get_edge(from, ev).is_none() {
+            if self.edge_count == limits().1 {
+                return Err(3);
+            }
+            self.edge_count += 1;
+        }
+        self.edges.entry(from).or_default().insert(ev, to);
+        Ok(())
+    }
+
+    fn get_edge(&self, from: NodeId, ev: Event) -> Option<NodeId> {
+        self.edges.get(&from)?.get(&ev).copied()
+    }
+
+    pub fn has_edges(&self, id: NodeId) -> bool {
+        self.edges.get(&id).is_some_and(|es| !es.is_empty())
+    }
+
+    pub fn follow_edge(&self, tables: &Tables, id: NodeId, key: u16) -> Follow {
+        let classes = tables.memberships(key).into_iter().map(Event::Class);
+        for ev in std::iter::once(Event::Key(key)).chain(classes).chain(std::iter::once(Event::Any)) {
+            if let Some(end) = self.get_edge(id, ev) {
+                return Follow::Successor(ev, end);
+            }
+        }
+        match self.get_edge(id, Event::Fallthrough) {
+            Some(end) => Follow::Fallthrough(end),
+            None => Follow::NoSuccessor,
+        }
+    }
+}
+
+// ---- adding a path
+
+/// A path on its way: the original's `mode`, `prev` and `fallthrough`.
+struct Adding<'a> {
+    graph: &'a mut Graph,
+    mode: u16,
+    prev: NodeId,
+    fallthrough: bool,
+}
+
+impl Adding<'_> {
+    fn add_node(&mut self, action: NodeAction) -> Outcome<NodeId> {
+        self.graph.add_node(self.mode, action)
+    }
+
+    fn add_simple_step(&mut self, ev: Event, step: Option<&Step>) -> Outcome<NodeId> {
+        let id = self.graph.upsert_node(self.mode, self.prev, ev, step.into())?;
+        if self.fallthrough {
+            self.graph.add_edge(self.prev, id, Event::Fallthrough)?;
+            self.fallthrough = false;
+        }
+        self.graph.add_edge(self.prev, id, ev)?;
+        Ok(id)
+    }
+
+    /// The loop `for _ in 1..n` with a plain step of the path.
+    fn add_simples(&mut self, n: u16, ev: Event) -> Outcome<()> {
+        for _ in 1..n {
+            self.prev = self.add_simple_step(ev, None)?;
+        }
+        Ok(())
+    }
+
+    /// What every Max with an n above 0 does after its end has been made.
+    fn add_optionals(&mut self, n: u16, ev: Event, end: NodeId) -> Outcome<()> {
+        for _ in 1..n {
+            let id = self.add_simple_step(ev, None)?;
+            self.graph.add_edge(id, end, Event::Fallthrough)?;
+            self.prev = id;
+        }
+        self.graph.add_edge(self.prev, end, ev)
+    }
+
+    fn add_intermediate(&mut self, part: &Part) -> Outcome<()> {
+        let ev = part.event;
+        if let Some(end) = self.graph.get_edge(self.prev, ev) {
+            self.prev = end;
+            return Ok(());
+        }
+        match part.repeat {
+            Repeat::Once => self.prev = self.add_simple_step(ev, None)?,
+            Repeat::Min(n) => {
+                let many = self.add_node(NodeAction::Empty)?;
+                self.graph.add_edge(many, many, ev)?;
+                if n == 0 {
+                    self.graph.add_edge(self.prev, many, Event::Fallthrough)?;
+                } else {
+                    self.add_simples(n, ev)?;
+                    self.graph.add_edge(self.prev, many, ev)?;
+                }
+                self.fallthrough = true;
+                self.prev = many;
+            },
+            Repeat::Max(0) => {},
+            Repeat::Max(n) => {
+                let end = self.add_node(NodeAction::Empty)?;
+                self.graph.add_edge(self.prev, end, Event::Fallthrough)?;
+                self.add_optionals(n, ev, end)?;
+                self.prev = end;
+            },
+        }
+        Ok(())
+    }
+
+    fn prefix_last(&mut self, last: &Part, single: bool, step: Option<&Step>) -> Outcome<()> {
+        let (root, ev) = (self.mode as NodeId, last.event);
+        match last.repeat {
+            Repeat::Once if step.is_none() => self.graph.add_edge(self.prev, root, ev),
+            Repeat::Once => {
+                let id = self.add_node(step.into())?;
+                self.graph.add_edge(self.prev, id, ev)?;
+                self.graph.add_edge(id, root, Event::Fallthrough)
+            },
+            Repeat::Min(n) => {
+                let n = if single { n.max(1) } else { n };
+                let end = self.add_node(step.into())?;
+                let many = self.add_node(NodeAction::Empty)?;
+                self.graph.add_edge(many, many, ev)?;
+                self.graph.add_edge(many, end, Event::Fallthrough)?;
+                self.graph.add_edge(end, root, Event::Fallthrough)?;
+                if n == 0 {
+                    self.graph.add_edge(self.prev, end, Event::Fallthrough)?;
+                } else {
+                    self.add_simples(n, ev)?;
+                }
+                self.graph.add_edge(self.prev, many, ev)
+            },
+            Repeat::Max(0) if single => Ok(()),
+            Repeat::Max(n) => {
+                let end = self.add_node(step.into())?;
+                self.graph.add_edge(self.prev, end, Event::Fallthrough)?;
+                self.graph.add_edge(end, root, Event::Fallthrough)?;
+                if n == 0 {
+                    return Ok(());
+                }
+                self.add_optionals(n, ev, end)
+            },
+        }
+    }
+
+    /// The node that the mapping's step stands in.
+    fn mapping_last(&mut self, last: &Part, step: &Step) -> Outcome<NodeId> {
+        let ev = last.event;
+        match last.repeat {
+            Repeat::Once => self.add_simple_step(ev, Some(step)),
+            Repeat::Min(n) => {
+                let end = self.add_node(Some(step).into())?;
+                let many = self.add_node(NodeAction::Empty)?;
+                self.graph.add_edge(many, end, Event::Fallthrough)?;
+                self.graph.add_edge(many, many, ev)?;
+                if n == 0 {
+                    self.graph.add_edge(self.prev, end, Event::Fallthrough)?;
+                } else {
+                    self.add_simples(n, ev)?;
+                }
+                self.graph.add_edge(self.prev, many, ev)?;
+                Ok(end)
+            },
+            Repeat::Max(n) => {
+                let end = self.add_node(Some(step).into())?;
+                self.graph.add_edge(self.prev, end, Event::Fallthrough)?;
+                if n != 0 {
+                    self.add_optionals(n, ev, end)?;
+                }
+                Ok(end)
+            },
+        }
+    }
+}
+
+impl Graph {
+    fn adding(&mut self, mode: u16) -> Adding<'_> {
+        Adding { graph: self, mode, prev: mode as NodeId, fallthrough: false }
+    }
+
+    pub fn add_prefix(&mut self, mode: u16, path: &[Part], step: Option<&Step>) -> Outcome<()> {
+        let Some((last, prefix)) = path.split_last() else { return Ok(()) };
+        let mut adding = self.adding(mode);
+        for part in prefix {
+            adding.add_intermediate(part)?;
+        }
+        adding.prefix_last(last, prefix.is_empty(), step)
+    }
+
+    pub fn add_mapping(&mut self, mode: u16, path: &[Part], step: &Step) -> Outcome<()> {
+        let Some((last, prefix)) = path.split_last() else { return Ok(()) };
+        let mut adding = self.adding(mode);
+        for part in prefix {
+            adding.add_intermediate(part)?;
+        }
+        let end = adding.mapping_last(last, step)?;
+        match step.fallthrough {
+            Some(mode) => self.add_edge(end, mode as NodeId, Event::Fallthrough),
+            None => Ok(()),
+        }
+    }
+}

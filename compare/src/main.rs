@@ -1,0 +1,175 @@
+//! Compares the rules of document 01 with the unchanged Rust original on random lists of calls and random runs. README.md
+//! says how it is built and used.
+
+mod antt;
+mod calls;
+mod cases;
+mod edges;
+mod gen;
+mod graph;
+mod mapfile;
+mod model;
+mod oracle;
+mod play;
+
+use std::io::Read;
+
+use antt::{Row, Sort};
+use gen::Kind;
+
+const USAGE: &str = "compare edges                        E1 to E10 of document 01 on model and original
+compare play KIND SEED               a list of calls with its answers
+compare many SORT FIRST COUNT        COUNT seeds from FIRST on: model against original, and how often what occurred
+compare rows SORT FIRST COUNT CRATE  the same as an antt file of CRATE, with a theorem for each seed
+compare keyplay                      what `keyplay` prints for standard input
+KIND is usual, plain, long or big. SORT is a kind; or runs, or keyplay; for rows also reader, which is plain lists on the
+list reader, and graphs, which is nodes and edges after the bindings of usual lists";
+
+fn main() {
+    let words: Vec<String> = std::env::args().skip(1).collect();
+    let words: Vec<&str> = words.iter().map(String::as_str).collect();
+    match words.as_slice() {
+        ["edges"] => edges(),
+        ["play", kind, seed] => show(kind_of(kind), number(seed)),
+        ["many", sort, first, count] => many(sort, number(first), number(count)),
+        ["rows", sort, first, count, name] => rows(sort, number(first), number(count), name),
+        ["keyplay"] => keyplay(),
+        _ => stop(USAGE),
+    }
+}
+
+fn stop(message: &str) -> ! {
+    eprintln!("{message}");
+    std::process::exit(2)
+}
+
+fn number(word: &str) -> u64 {
+    word.parse().unwrap_or_else(|_| stop(USAGE))
+}
+
+fn kind_of(word: &str) -> Kind {
+    match word {
+        "usual" => Kind::Usual,
+        "plain" | "reader" => Kind::Plain,
+        "long" => Kind::Long,
+        "big" => Kind::Big,
+        _ => stop(USAGE),
+    }
+}
+
+/// What model and original agree on; where they do not, the comparison ends.
+fn agreed<T>(seed: u64, outcome: Result<T, String>) -> T {
+    outcome.unwrap_or_else(|e| {
+        println!("seed {seed}: {e}");
+        std::process::exit(1)
+    })
+}
+
+fn played(seed: u64, kind: Kind) -> play::Played {
+    agreed(seed, play::play(&gen::list_of(seed, kind)))
+}
+
+fn show(kind: Kind, seed: u64) {
+    let played = played(seed, kind);
+    println!("seed {seed}, {kind:?}");
+    for (call, seen) in played.calls.iter().zip(&played.seen) {
+        println!("{call:?}\n    {}, mode {}", seen.answer, seen.mode);
+    }
+    println!("{} nodes beside the roots, {} edges", played.size.0, played.size.1);
+}
+
+fn edges() {
+    for edge in edges::edges() {
+        edge.check().unwrap_or_else(|e| stop(&e));
+        println!("{}: as the paper has it", edge.name);
+    }
+}
+
+fn keyplay() {
+    let mut input = vec![];
+    std::io::stdin().read_to_end(&mut input).unwrap_or_else(|e| stop(&e.to_string()));
+    print!("{}", mapfile::keyplay(&input).unwrap_or_else(|e| stop(&e)));
+}
+
+// ---- many
+
+fn many(sort: &str, first: u64, count: u64) {
+    let seeds = first..first + count;
+    match sort {
+        "runs" => many_runs(seeds),
+        "keyplay" => many_plays(seeds),
+        kind => many_lists(kind_of(kind), seeds),
+    }
+    println!("{count} of {sort}, seeds {first} to {}: model and original agree", first + count - 1);
+}
+
+fn many_lists(kind: Kind, seeds: std::ops::Range<u64>) {
+    let mut counts = play::Counts::default();
+    let (mut nodes, mut edges, mut stacked) = (0, 0, 0);
+    for seed in seeds {
+        let p = played(seed, kind);
+        counts.add(&p);
+        nodes = nodes.max(p.size.0);
+        edges = edges.max(p.size.1);
+        stacked = stacked.max(p.tally.most_stacked);
+    }
+    counts.print();
+    println!("at most {nodes} nodes beside the roots, {edges} edges, {stacked} keys to try");
+}
+
+fn many_runs(seeds: std::ops::Range<u64>) {
+    let mut counts = play::Counts::default();
+    for seed in seeds {
+        let (_, code, _) = ran(seed);
+        let what = if code % 32 == 0 { format!("accepted, {} bytes", code / 32) } else { format!("refused {code}") };
+        counts.note(what, 1);
+    }
+    counts.print();
+}
+
+fn many_plays(seeds: std::ops::Range<u64>) {
+    let mut counts = play::Counts::default();
+    for seed in seeds {
+        let text = agreed(seed, mapfile::keyplay(&cases::input_of(seed)));
+        let first = text.lines().next().unwrap_or_default();
+        counts.note(format!("{first} ({} lines)", text.lines().count()), 1);
+    }
+    counts.print();
+}
+
+fn ran(seed: u64) -> (cases::Case, u32, Vec<u8>) {
+    let case = cases::case_of(seed);
+    let (code, output) = agreed(seed, mapfile::exported(&case.map, &case.keys, case.budget, &case.lent));
+    (case, code, output)
+}
+
+// ---- rows
+
+fn rows(sort: &str, first: u64, count: u64, name: &str) {
+    let (words, row): (Sort, fn(u64, &str) -> Row) = match sort {
+        "runs" => (Sort { of: "Ran", outcome: "runOutcome" }, |seed, _| {
+            let (case, code, output) = ran(seed);
+            antt::run_row(row_name(seed), &case, code, &output)
+        }),
+        "keyplay" => (Sort { of: "Printed", outcome: "playOutcome" }, |seed, _| {
+            let input = cases::input_of(seed);
+            antt::play_row(row_name(seed), &input, &agreed(seed, mapfile::keyplay(&input)))
+        }),
+        "graphs" => (Sort { of: "Built", outcome: "buildOutcome" }, |seed, _| {
+            let (calls, graph) = agreed(seed, play::build(&gen::list_of(seed, Kind::Usual)));
+            antt::graph_row(row_name(seed), &calls, &graph)
+        }),
+        "reader" => (Sort { of: "List Tried", outcome: "outcome listKind" }, list_row),
+        _ => (Sort { of: "List Tried", outcome: "outcome graphKind" }, list_row),
+    };
+    let rows: Vec<Row> = (first..first + count).map(|seed| row(seed, sort)).collect();
+    print!("{}", antt::file(name, &words, &rows));
+}
+
+fn row_name(seed: u64) -> String {
+    format!("r{seed}")
+}
+
+fn list_row(seed: u64, kind: &str) -> Row {
+    antt::list_row(row_name(seed), &played(seed, kind_of(kind)))
+}

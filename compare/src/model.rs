@@ -1,0 +1,362 @@
+//! The original's machine written again with what it does not have: a count of rounds with a budget, and the limits of
+//! document 01. The functions carry the original's names and keep its order of work, so that the first refusal met is
+//! the one that document 01 names. `play.rs` holds every accepted call of it to the original itself.
+
+use std::collections::{HashMap, VecDeque};
+
+use crate::calls::{binding_valid, decompose, tables_valid, Answer, Call, Context, Pair, Step, Tables};
+use crate::graph::{Follow, Graph, NodeAction, NodeId, Outcome};
+
+const MOST_QUEUED: usize = 256;
+const MOST_TRACKED: usize = 64;
+const MOST_TRAIL: usize = 64;
+const MOST_STACKED: usize = 130;
+
+// ---- sequences
+
+#[derive(Clone, Default)]
+struct Tracker {
+    sequence: Vec<Pair>,
+    sequence_break: bool,
+}
+
+impl Tracker {
+    fn push(&mut self, status: u16, pair: Pair) -> Outcome<()> {
+        match status {
+            0 => (self.sequence, self.sequence_break) = (vec![pair], true),
+            1 => self.sequence_break = true,
+            3 => (self.sequence, self.sequence_break) = (vec![pair], false),
+            4 if self.sequence_break => (self.sequence, self.sequence_break) = (vec![pair], false),
+            4 if self.sequence.len() == MOST_TRACKED => return Err(6),
+            4 => self.sequence.push(pair),
+            _ => {},
+        }
+        Ok(())
+    }
+}
+
+// ---- the machine
+
+enum InputResult {
+    ClearTrail,
+    Consumed,
+    Step(Step),
+    RetryAfter(Step),
+    NeedMore,
+    Unmapped,
+}
+
+/// How often each way out of `input` was taken, for the report of a comparison.
+#[derive(Clone, Copy, Debug, Default)]
+pub struct Tally {
+    pub clear_trail: u64,
+    pub consumed: u64,
+    pub step: u64,
+    pub retry_after: u64,
+    pub need_more: u64,
+    pub unmapped: u64,
+    pub decomposed: u64,
+    pub again: u64,
+    pub most_stacked: usize,
+}
+
+struct Rounds {
+    made: u32,
+    budget: u32,
+}
+
+impl Rounds {
+    fn next(&mut self) -> Outcome<()> {
+        if self.made == self.budget {
+            return Err(8);
+        }
+        self.made += 1;
+        Ok(())
+    }
+}
+
+#[derive(Clone)]
+pub struct Model {
+    tables: Tables,
+    graph: Graph,
+    curr: NodeId,
+    mode: u16,
+    context: Context,
+    queue: VecDeque<Pair>,
+    trail: Vec<u16>,
+    sequences: HashMap<u16, Tracker>,
+    pub tally: Tally,
+}
+
+impl Model {
+    pub fn fresh(tables: Tables) -> Self {
+        Model {
+            tables,
+            graph: Graph::fresh(),
+            curr: 0,
+            mode: 0,
+            context: Context::default(),
+            queue: VecDeque::new(),
+            trail: vec![],
+            sequences: HashMap::new(),
+            tally: Tally::default(),
+        }
+    }
+
+    // ---- what can be seen of it
+
+    pub fn mode(&self) -> u16 {
+        self.mode
+    }
+
+    pub fn context(&self) -> Context {
+        self.context
+    }
+
+    pub fn queue(&self) -> Vec<Pair> {
+        self.queue.iter().copied().collect()
+    }
+
+    pub fn trail(&self) -> &[u16] {
+        &self.trail
+    }
+
+    pub fn sequence(&self, sequence: u16) -> Vec<Pair> {
+        self.sequences.get(&sequence).map(|t| t.sequence.clone()).unwrap_or_default()
+    }
+
+    pub fn graph(&self) -> &Graph {
+        &self.graph
+    }
+
+    // ---- pushing
+
+    fn push(&mut self, pair: Pair) -> Outcome<()> {
+        for (sequence, status) in self.tables.sequences(self.mode, pair.action) {
+            self.sequences.entry(sequence).or_default().push(status, pair)?;
+        }
+        if self.queue.len() == MOST_QUEUED {
+            return Err(5);
+        }
+        self.queue.push_back(pair);
+        Ok(())
+    }
+
+    fn push_all(&mut self, actions: Vec<u16>) -> Outcome<()> {
+        let context = self.context.take();
+        for action in actions {
+            self.push(Pair { action, context })?;
+        }
+        Ok(())
+    }
+
+    fn goto_mode(&mut self, mode: u16) -> Outcome<()> {
+        self.curr = mode as NodeId;
+        self.mode = mode;
+        self.push_all(self.tables.mode(mode).enter)
+    }
+
+    fn unmapped(&mut self) -> Outcome<()> {
+        let entry = self.tables.mode(self.graph.get_node(self.curr).mode);
+        let actions = if entry.unmapped.is_empty() { vec![0] } else { entry.unmapped };
+        self.push_all(actions)?;
+        self.goto_mode(entry.next.unwrap_or(self.mode))
+    }
+
+    fn step(&mut self, step: &Step) -> Outcome<()> {
+        if let Some(mark) = step.mark {
+            self.context.mark = mark;
+        }
+        match (step.actions.len(), step.next) {
+            (0, None) => Ok(()),
+            (0, Some(mode)) => {
+                self.push_all(vec![0])?;
+                self.goto_mode(mode)
+            },
+            (_, next) => {
+                self.push_all(step.actions.clone())?;
+                self.goto_mode(next.unwrap_or(self.mode))
+            },
+        }
+    }
+
+    // ---- the key loop
+
+    fn input(&mut self, key: u16, rounds: &mut Rounds) -> Outcome<InputResult> {
+        loop {
+            rounds.next()?;
+            match self.graph.follow_edge(&self.tables, self.curr, key) {
+                Follow::Successor(event, end) => {
+                    self.context.event(event, key);
+                    self.curr = end;
+                    return Ok(self.arrived());
+                },
+                Follow::NoSuccessor => return Ok(InputResult::Unmapped),
+                Follow::Fallthrough(end) => {
+                    self.curr = end;
+                    match &self.graph.get_node(end).action {
+                        NodeAction::Empty => self.tally.again += 1,
+                        NodeAction::Root => return Ok(InputResult::ClearTrail),
+                        NodeAction::Step(s) => return Ok(InputResult::RetryAfter(s.clone())),
+                    }
+                },
+            }
+        }
+    }
+
+    fn arrived(&self) -> InputResult {
+        match &self.graph.get_node(self.curr).action {
+            NodeAction::Step(s) if !s.flag => InputResult::Step(s.clone()),
+            NodeAction::Step(_) if self.graph.has_edges(self.curr) => InputResult::NeedMore,
+            NodeAction::Step(_) => InputResult::Unmapped,
+            NodeAction::Empty => InputResult::NeedMore,
+            NodeAction::Root => InputResult::Consumed,
+        }
+    }
+
+    fn input_key(&mut self, key: u16, rounds: &mut Rounds) -> Outcome<()> {
+        let mut stack = vec![key];
+        while let Some(key) = stack.pop() {
+            self.try_key(key, &mut stack, rounds)?;
+        }
+        Ok(())
+    }
+
+    /// The inner loop of the original's `input_key`: one key until it is consumed, needs more or is unmapped.
+    fn try_key(&mut self, mut key: u16, stack: &mut Vec<u16>, rounds: &mut Rounds) -> Outcome<()> {
+        loop {
+            let result = self.input(key, rounds)?;
+            self.count(&result);
+            match result {
+                InputResult::Consumed => {
+                    self.trail.clear();
+                    return Ok(());
+                },
+                InputResult::NeedMore => {
+                    if self.trail.len() == MOST_TRAIL {
+                        return Err(7);
+                    }
+                    self.trail.push(key);
+                    return Ok(());
+                },
+                InputResult::Unmapped => {
+                    if let Some((first, rest)) = decompose(key) {
+                        self.tally.decomposed += 1;
+                        key = first;
+                        stack.push(rest);
+                        self.stacked(stack.len() + 1);
+                        continue;
+                    }
+                    let mut trail = std::mem::take(&mut self.trail);
+                    trail.push(key);
+                    self.unmapped()?;
+                    stack.extend(trail[1..].iter().rev());
+                    self.stacked(stack.len());
+                    return Ok(());
+                },
+                InputResult::ClearTrail => self.trail.clear(),
+                InputResult::RetryAfter(step) => {
+                    self.trail.clear();
+                    self.step(&step)?;
+                },
+                InputResult::Step(step) => {
+                    self.trail.clear();
+                    return self.step(&step);
+                },
+            }
+        }
+    }
+
+    /// Document 01: the stack never exceeds 130 keys, the one at work included.
+    fn stacked(&mut self, keys: usize) {
+        assert!(keys <= MOST_STACKED, "a stack of {keys} keys");
+        self.tally.most_stacked = self.tally.most_stacked.max(keys);
+    }
+
+    fn count(&mut self, result: &InputResult) {
+        let t = &mut self.tally;
+        let place = match result {
+            InputResult::ClearTrail => &mut t.clear_trail,
+            InputResult::Consumed => &mut t.consumed,
+            InputResult::Step(_) => &mut t.step,
+            InputResult::RetryAfter(_) => &mut t.retry_after,
+            InputResult::NeedMore => &mut t.need_more,
+            InputResult::Unmapped => &mut t.unmapped,
+        };
+        *place += 1;
+    }
+
+    // ---- repeat and reset
+
+    fn repeat(&mut self, sequence: u16, over: Option<Context>) -> Outcome<()> {
+        if sequence > 7 {
+            return Err(1);
+        }
+        let tracker = self.sequences.entry(sequence).or_default();
+        for pair in &mut tracker.sequence {
+            pair.context = over.map_or(pair.context, |o| pair.context.merge(o));
+        }
+        if tracker.sequence.len() + self.queue.len() > MOST_QUEUED {
+            return Err(5);
+        }
+        for pair in tracker.sequence.iter().rev() {
+            self.queue.push_front(*pair);
+        }
+        Ok(())
+    }
+
+    fn reset_mode(&mut self) -> Outcome<()> {
+        for tracker in self.sequences.values_mut() {
+            tracker.sequence_break = true;
+        }
+        self.goto_mode(0)
+    }
+
+    // ---- calls
+
+    /// An accepted call changes the machine; a refused one leaves it as it was, but for the tally.
+    pub fn call(&mut self, call: &Call) -> Answer {
+        match call {
+            Call::Key { key, budget } => self.key(*key, *budget),
+            Call::Pop => self.queue.pop_front().map_or(Answer::Nothing, Answer::Pair),
+            _ => match self.tried(|m| m.change(call)) {
+                Ok(()) => Answer::Accepted,
+                Err(n) => Answer::Refused(n),
+            },
+        }
+    }
+
+    fn key(&mut self, key: u16, budget: u16) -> Answer {
+        let mut rounds = Rounds { made: 0, budget: budget as u32 };
+        match self.tried(|m| m.input_key(key, &mut rounds)) {
+            Ok(()) => Answer::Rounds(rounds.made),
+            Err(n) => Answer::RefusedRounds(n, rounds.made),
+        }
+    }
+
+    fn change(&mut self, call: &Call) -> Outcome<()> {
+        match call {
+            Call::Open(t) if !tables_valid(t) => Err(1),
+            Call::Open(t) => {
+                *self = Model { tally: self.tally, ..Model::fresh(t.clone()) };
+                Ok(())
+            },
+            Call::Map(mode, path, step) if !binding_valid(*mode, path, Some(step)) => Err(1),
+            Call::Map(mode, path, step) => self.graph.add_mapping(*mode, path, step),
+            Call::Prefix(mode, path, step) if !binding_valid(*mode, path, step.as_ref()) => Err(1),
+            Call::Prefix(mode, path, step) => self.graph.add_prefix(*mode, path, step.as_ref()),
+            Call::Repeat(sequence, over) => self.repeat(*sequence, *over),
+            Call::Reset => self.reset_mode(),
+            Call::Key { .. } | Call::Pop => unreachable!("these have answers of their own"),
+        }
+    }
+
+    fn tried(&mut self, work: impl FnOnce(&mut Model) -> Outcome<()>) -> Outcome<()> {
+        let before = self.clone();
+        let outcome = work(self);
+        if outcome.is_err() {
+            *self = Model { tally: self.tally, ..before };
+        }
+        outcome
+    }
+}

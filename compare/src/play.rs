@@ -1,0 +1,196 @@
+//! One list of calls on the model and on the original at once. The model gives the refusals; every call that it accepts
+//! goes to the original too, and both must then show the same and have made the same rounds.
+
+use std::collections::BTreeMap;
+
+use crate::calls::{Answer, Call, Context, Pair};
+use crate::graph::Graph;
+use crate::model::{Model, Tally};
+use crate::oracle::Oracle;
+
+/// What can be seen after a call.
+#[derive(Clone, Debug, PartialEq)]
+pub struct Seen {
+    pub answer: Answer,
+    pub mode: u16,
+    pub context: Context,
+    pub queued: usize,
+    pub trail: Vec<u16>,
+}
+
+pub struct Both {
+    pub model: Model,
+    original: Oracle,
+}
+
+impl Both {
+    pub fn fresh() -> Self {
+        Both { model: Model::fresh(Default::default()), original: Oracle::fresh() }
+    }
+
+    /// The answer and what is seen, or how model and original differ.
+    pub fn call(&mut self, call: &Call) -> Result<Seen, String> {
+        let answer = self.model.call(call);
+        self.follow(call, answer)?;
+        let (mode, context) = (self.model.mode(), self.model.context());
+        if (mode, context) != (self.original.mode(), self.original.context()) {
+            return Err(format!(
+                "after {call:?} ({answer}) the model has mode {mode} and {context:?}, the original mode {} and {:?}",
+                self.original.mode(),
+                self.original.context()
+            ));
+        }
+        Ok(Seen { answer, mode, context, queued: self.model.queue().len(), trail: self.model.trail().to_vec() })
+    }
+
+    /// Holds the original to the model's answer. A refusal of document 01's own leaves the original as it is.
+    fn follow(&mut self, call: &Call, answer: Answer) -> Result<(), String> {
+        match (call, answer) {
+            (_, Answer::Refused(4)) if !self.original.panics_at(call) => Err(format!("no panic at {call:?}")),
+            (Call::Key { key, .. }, Answer::RefusedRounds(n, rounds)) => self.follow_refused(*key, n, rounds),
+            (_, Answer::Refused(_)) => Ok(()),
+            _ => self.follow_accepted(call, answer),
+        }
+    }
+
+    /// 8: the original would begin a further round. Else it makes the last of the rounds, and perhaps more.
+    fn follow_refused(&mut self, key: u16, refusal: u16, rounds: u32) -> Result<(), String> {
+        let least = if refusal == 8 { rounds } else { rounds - 1 };
+        if self.original.exceeds(least, key) {
+            return Ok(());
+        }
+        Err(format!(
+            "key {key} is refused with {refusal} after {rounds} rounds, but the original makes at most {least}"
+        ))
+    }
+
+    fn follow_accepted(&mut self, call: &Call, answer: Answer) -> Result<(), String> {
+        let pair = self.original.accept(call);
+        if matches!(call, Call::Pop) && pair != pair_of(answer) {
+            return Err(format!("the original pops {pair:?}, the model {answer}"));
+        }
+        match answer {
+            Answer::Rounds(rounds) if rounds != self.original.rounds() => {
+                Err(format!("at {call:?} the original makes {} rounds, the model {rounds}", self.original.rounds()))
+            },
+            _ => Ok(()),
+        }
+    }
+}
+
+fn pair_of(answer: Answer) -> Option<Pair> {
+    match answer {
+        Answer::Pair(p) => Some(p),
+        _ => None,
+    }
+}
+
+/// A list with the pops and repeats at its end that show what it left: the queue, and each remembered sequence.
+pub struct Played {
+    pub calls: Vec<Call>,
+    pub seen: Vec<Seen>,
+    pub tally: Tally,
+    /// Nodes beside the roots, and edges.
+    pub size: (usize, usize),
+}
+
+pub fn play(list: &[Call]) -> Result<Played, String> {
+    let mut both = Both::fresh();
+    let mut played = Played { calls: vec![], seen: vec![], tally: Tally::default(), size: (0, 0) };
+    for call in list {
+        played.add(&mut both, call.clone())?;
+    }
+    played.empty_queue(&mut both)?;
+    for sequence in 0..8 {
+        if !both.model.sequence(sequence).is_empty() {
+            played.add(&mut both, Call::Repeat(sequence, None))?;
+            played.empty_queue(&mut both)?;
+        }
+    }
+    played.tally = both.model.tally;
+    played.size = both.model.graph().size();
+    Ok(played)
+}
+
+/// The open and binding calls of a list, and the graph that they leave. Only the model's nodes and edges can be seen.
+pub fn build(list: &[Call]) -> Result<(Vec<Call>, Graph), String> {
+    let is_binding = |c: &&Call| matches!(c, Call::Open(_) | Call::Map(..) | Call::Prefix(..));
+    let calls: Vec<Call> = list.iter().filter(is_binding).cloned().collect();
+    let mut both = Both::fresh();
+    for call in &calls {
+        both.call(call)?;
+    }
+    Ok((calls, both.model.graph().clone()))
+}
+
+impl Played {
+    fn add(&mut self, both: &mut Both, call: Call) -> Result<Answer, String> {
+        let seen = both.call(&call)?;
+        let answer = seen.answer;
+        self.calls.push(call);
+        self.seen.push(seen);
+        Ok(answer)
+    }
+
+    fn empty_queue(&mut self, both: &mut Both) -> Result<(), String> {
+        while self.add(both, Call::Pop)? != Answer::Nothing {}
+        Ok(())
+    }
+}
+
+/// How often each kind of answer was given, by the kind of call.
+#[derive(Default)]
+pub struct Counts(BTreeMap<String, u64>);
+
+impl Counts {
+    pub fn add(&mut self, played: &Played) {
+        for (call, seen) in played.calls.iter().zip(&played.seen) {
+            self.note(format!("{}: {}", name_of(call), answer_kind(seen.answer)), 1);
+        }
+        let t = played.tally;
+        let ways = [
+            ("consumed", t.consumed),
+            ("need more", t.need_more),
+            ("unmapped", t.unmapped),
+            ("unmapped, decomposed", t.decomposed),
+            ("clear trail", t.clear_trail),
+            ("step", t.step),
+            ("retry after", t.retry_after),
+            ("fallthrough to an empty node", t.again),
+        ];
+        for (name, times) in ways {
+            self.note(format!("loop: {name}"), times);
+        }
+    }
+
+    pub fn note(&mut self, what: String, times: u64) {
+        *self.0.entry(what).or_default() += times;
+    }
+
+    pub fn print(&self) {
+        for (what, times) in &self.0 {
+            println!("{times:>10}  {what}");
+        }
+    }
+}
+
+fn name_of(call: &Call) -> &'static str {
+    match call {
+        Call::Open(_) => "open",
+        Call::Map(..) => "map",
+        Call::Prefix(..) => "prefix",
+        Call::Key { .. } => "key",
+        Call::Pop => "pop",
+        Call::Repeat(..) => "repeat",
+        Call::Reset => "reset",
+    }
+}
+
+fn answer_kind(answer: Answer) -> String {
+    match answer {
+        Answer::Pair(_) => "pair".into(),
+        Answer::Rounds(_) => "accepted".into(),
+        Answer::Refused(n) | Answer::RefusedRounds(n, _) => format!("refused {n}"),
+        other => other.to_string(),
+    }
+}
