@@ -1,0 +1,7 @@
+-- Laws that belong to no one function.
+pub mod Words
+pub mod Finds
+pub mod Nodes
+pub mod Binds
+pub mod Cursors
+pub mod Ranges

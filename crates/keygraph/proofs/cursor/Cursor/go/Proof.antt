@@ -1,0 +1,15 @@
+-- The words and the counts stay, and the node is the one given.
+use mathlib.Core.Path.{refl}
+use Rattle.rules.specs.Graph.{cursor}
+use Rattle.keygraph.specs.View.{graphIn}
+use Rattle.keygraph.specs.Making.{outcome, cursorIn}
+use Rattle.keygraph.proofs.Cursors.{alters}
+use Rattle.keygraph.proofs.cursor.Cursor.go.Statement.{statement}
+use Rattle.keygraph.proofs.cursor.Cursor.go.Tie as tie
+
+returns : tie.Need-returns
+unfolding outcome
+returns c = let a = c .before .args in let s = a .self in λ hs ws es. alters (s .refusal) (cursorIn hs ws es s) (cursor (graphIn hs ws es (s .counts)) (a .node) (s .owed)) refl
+
+pub go-spec : {M : Type 1} → statement M
+go-spec = tie.close (tie.spec returns)

@@ -1,0 +1,15 @@
+-- The words and the counts stay, and the node and what is owed are those given.
+use mathlib.Core.Path.{refl}
+use Rattle.rules.specs.Graph.{cursor}
+use Rattle.keygraph.specs.View.{graphIn}
+use Rattle.keygraph.specs.Making.{outcome, cursorIn}
+use Rattle.keygraph.proofs.Cursors.{alters}
+use Rattle.keygraph.proofs.cursor.Cursor.go_owing.Statement.{statement}
+use Rattle.keygraph.proofs.cursor.Cursor.go_owing.Tie as tie
+
+returns : tie.Need-returns
+unfolding outcome
+returns c = let a = c .before .args in let s = a .self in λ hs ws es. alters (s .refusal) (cursorIn hs ws es s) (cursor (graphIn hs ws es (s .counts)) (a .node) (a .owed)) refl
+
+pub go-owing-spec : {M : Type 1} → statement M
+go-owing-spec = tie.close (tie.spec returns)

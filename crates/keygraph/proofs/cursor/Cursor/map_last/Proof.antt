@@ -1,0 +1,45 @@
+-- By the repeat, as `mapLast`.
+use borrow.Author.Needs.{needs}
+use Rattle.keygraph.proofs.cursor.Cursor.map_last.Statement.{statement}
+use Rattle.keygraph.proofs.cursor.Cursor.map_last.Tie as tie
+
+enum-told : tie.Need-enum-told
+enum-told c = search needs
+
+map-once-requires : tie.Need-map-once-requires
+map-once-requires c κs = search needs
+
+enum-known-repeat : tie.Need-enum-known-repeat
+enum-known-repeat c = search needs
+
+map-min-requires : tie.Need-map-min-requires
+map-min-requires c κs = search needs
+
+enum-known-repeat-2 : tie.Need-enum-known-repeat-2
+enum-known-repeat-2 c = search needs
+
+map-max-requires : tie.Need-map-max-requires
+map-max-requires c κs = search needs
+
+returns : tie.Need-returns
+returns c = (c .map-once .ensures .0, rw (c .before .before .before .before .enum-told .given .1) (c .map-once .ensures .1))
+
+returns-2 : tie.Need-returns-2
+returns-2 c = (c .map-min .ensures .0, rw (c .before .before .before .before .before .repeat .given .1) (c .map-min .ensures .1))
+
+returns-3 : tie.Need-returns-3
+returns-3 c = (c .map-max .ensures .0, rw (c .before .before .before .before .before .repeat2 .given .1) (c .map-max .ensures .1))
+
+pub map-last-spec : {M : Type 1} → statement M
+map-last-spec =
+    tie.close
+    (tie.spec
+    enum-told
+    map-once-requires
+    enum-known-repeat
+    map-min-requires
+    enum-known-repeat-2
+    map-max-requires
+    returns
+    returns-2
+    returns-3)

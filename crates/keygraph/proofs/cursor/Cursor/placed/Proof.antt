@@ -1,0 +1,16 @@
+-- The refusal number is 0 exactly where the cursor was not refused.
+use Rattle.keygraph.specs.Making.{outcome, resultOf}
+use Rattle.keygraph.proofs.Binds.{refused}
+use Rattle.keygraph.proofs.cursor.Cursor.placed.Statement.{statement}
+use Rattle.keygraph.proofs.cursor.Cursor.placed.Tie as tie
+
+returns : tie.Need-returns
+unfolding outcome resultOf
+returns c = λ hs ws es. rw (c .if1 .taken)
+
+returns-2 : tie.Need-returns-2
+unfolding outcome
+returns-2 c = λ hs ws es. rw (refused _ _ (c .if1 .left))
+
+pub placed-spec : {M : Type 1} → statement M
+placed-spec = tie.close (tie.spec returns returns-2)
