@@ -1,0 +1,145 @@
+-- The calls on a machine by value, against `call`.
+use Prim.Native.Nat.{ℕ, zero, suc, _+_, _-_, _*_, _≤_, _<_, min}
+use mathlib.Core.Path.{_≡_, refl, sym, ap, _∙_}
+use mathlib.Core.Bool.{Bool, true, false}
+use mathlib.Core.Option.{Option}
+use mathlib.Core.List.{List, [], _∷_, _++_, map, append-nil}
+use native.Mathlib.Omega.{arith}
+use lib.ListN.{length, take, drop, set, getD, length-map, length-drop, drop-of-length-le}
+use lib.Seq.{paste, take-paste, take-all}
+use Rattle.rules.specs.Basics.{Result, accept, refuse, _>>=_, unless}
+use Rattle.rules.specs.Values.{Context, Pair, Part, Step, mapValid, prefixValid}
+use Rattle.rules.specs.Tables.{Tables, tablesValid}
+use Rattle.rules.specs.Graph.{Graph, addMapping, addPrefix}
+use Rattle.rules.specs.KeyLoop.{Tracker, noTracker, State, at, withQueue, KeyResult, Input, inputKey, gotoMode, resetMode, freshShared}
+use Rattle.rules.specs.KeyLoop as key
+use Rattle.rules.specs.Calls.{Machine, Answer, Accepted, Refused, Pressed, PressRefused, Popped, Nothing, withBindings, withState, withShared, fresh, open-with, settled, pressed, popped, map-call, prefix-call, key-call, reset-call, call, Open, Map, Prefix, Press, Pop, Reset, graphKind, graphNavigator}
+use Rattle.keygraph.specs.View as kg
+use Rattle.keymachine.specs.Views.{outcome, pairOf, pairsOf, trackerOf, trackersOf, blocks, broke, shared}
+use Rattle.keymachine.proofs.Lists.{map-more, map-at, length-blocks, drop-take, take-min}
+use Rattle.keymachine.proofs.Sequences.{tracker-at, trackers-back}
+
+-- ---- open
+
+open-bad : (s : Machine graphKind) (t : Tables) → tablesValid t ≡ false → (s, Refused 1) ≡ call graphKind s (Open t)
+unfolding call settled open-with
+open-bad s t e = rw e
+
+open-good : (s : Machine graphKind) (t : Tables) → tablesValid t ≡ true → (fresh graphKind t, Accepted) ≡ call graphKind s (Open t)
+unfolding call settled open-with
+open-good s t e = rw e
+
+pub opened : (s m : Machine graphKind) (t : Tables) (b : Bool) → b ≡ tablesValid t → b ≡ true → m ≡ fresh graphKind t → (m, Accepted) ≡ call graphKind s (Open t)
+opened s m t b e h em = ap (λ (x : Machine graphKind). (x, Accepted)) em ∙ open-good s t (sym e ∙ h)
+
+pub not-opened : (s m : Machine graphKind) (t : Tables) (b : Bool) → b ≡ tablesValid t → b ≡ false → m ≡ s → (m, Refused 1) ≡ call graphKind s (Open t)
+not-opened s m t b e h em = ap (λ (x : Machine graphKind). (x, Refused 1)) em ∙ open-bad s t (sym e ∙ h)
+
+-- other tables under the same state
+abbrev pub withTables : Machine graphKind → Tables → Machine graphKind
+withTables s t = withShared graphKind s (record { tables = t; mode = s .state .shared .mode; context = s .state .shared .context; queue = s .state .shared .queue; trail = s .state .shared .trail; sequences = s .state .shared .sequences })
+
+pub retabled : (s : Machine graphKind) (old t u : Tables) → s ≡ fresh graphKind old → t ≡ u → withTables s t ≡ fresh graphKind u
+unfolding fresh freshShared
+retabled s old t u e et = rw (e, et)
+
+-- ---- map and prefix
+
+bound : (s : Machine graphKind) (g : Graph) (a : Answer) (r : Result Graph) → _≡_ {A = Graph × Answer} (g, a) (kg.settled (s .bindings) r)
+    → (withBindings graphKind s g, a) ≡ settled graphKind s (r >>= λ b. accept (withBindings graphKind s b))
+unfolding kg.settled settled
+bound s g a (accept b) e = ap (λ (x : Graph × Answer). (withBindings graphKind s (x .0), x .1)) e
+bound s g a (refuse n) e = ap (λ (x : Graph × Answer). (withBindings graphKind s (x .0), x .1)) e
+
+pub mapped : (s : Machine graphKind) (g : Graph) (a : Answer) (mode : ℕ) (ps : List Part) (st : Step)
+    → _≡_ {A = Graph × Answer} (g, a) (kg.settled (s .bindings) (unless (mapValid mode ps st) 1 (addMapping mode ps st (s .bindings))))
+    → (withBindings graphKind s g, a) ≡ call graphKind s (Map mode ps st)
+unfolding call map-call
+mapped s g a mode ps st e = bound s g a _ e
+
+pub prefixed : (s : Machine graphKind) (g : Graph) (a : Answer) (mode : ℕ) (ps : List Part) (st : Option Step)
+    → _≡_ {A = Graph × Answer} (g, a) (kg.settled (s .bindings) (unless (prefixValid mode ps st) 1 (addPrefix mode ps st (s .bindings))))
+    → (withBindings graphKind s g, a) ≡ call graphKind s (Prefix mode ps st)
+unfolding call prefix-call
+prefixed s g a mode ps st e = bound s g a _ e
+
+-- ---- key
+
+module _ (s : Machine graphKind) (i : Input) (R n : ℕ) (x : State ℕ) (e : _≡_ {A = KeyResult ℕ} (record { rounds = R; result = outcome n x }) (inputKey (graphNavigator (s .bindings)) i (s .state))) where
+  pub press-refused : (n ≡ 0 → ⊥) → (s, PressRefused n R) ≡ call graphKind s (Press i)
+  unfolding call key-call pressed
+  press-refused h = rw (← e) (pick n h)
+    where
+      pick : (n : ℕ) → (n ≡ 0 → ⊥) → (s, PressRefused n R) ≡ pressed graphKind s R (outcome n x)
+      pick zero h = absurd (h refl)
+      pick (suc n) h = refl
+
+  pub press-done : n ≡ 0 → (withState graphKind s x, Pressed R) ≡ call graphKind s (Press i)
+  unfolding call key-call pressed
+  press-done h = rw (← e, h)
+
+-- ---- pop
+
+pub shifted : (old o : List ℕ) (n : ℕ) → length old ≡ 256 → n ≤ 256 → o ≡ paste old 0 (drop 1 old) (n - 1) → take (n - 1) o ≡ drop 1 (take n old)
+shifted old o n eo h e =
+    let a : n - 1 ≤ length (drop 1 old) = omega (arith, length-drop 1 old) in
+    let z : 0 ≤ length old = omega arith in
+    let p : take (0 + (n - 1)) (paste old 0 (drop 1 old) (n - 1)) ≡ take (n - 1) (drop 1 old) = take-paste old 0 (drop 1 old) (n - 1) z a in
+    let b : 0 + (n - 1) ≡ n - 1 = omega arith in
+    rw (e, drop-take n old) (ap (λ (k : ℕ). take k (paste old 0 (drop 1 old) (n - 1))) (sym b) ∙ p)
+
+split : (n : ℕ) (ws : List ℕ) → (n ≡ 0 → ⊥) → length ws ≡ 256 → take n ws ≡ getD ws 0 0 ∷ drop 1 (take n ws)
+split zero ws h l = absurd (h refl)
+split (suc n) [] h l = absurd (omega arith)
+split (suc n) (x ∷ ws) h l = refl
+
+module _ (s : Machine graphKind) (queued n : ℕ) (ws : List ℕ) (eq : s .state .shared .queue ≡ pairsOf queued ws) (l : length ws ≡ 256) (en : n ≡ min queued 256) where
+  pub pop-none : n ≡ 0 → (s, Nothing) ≡ call graphKind s Pop
+  unfolding call popped
+  pop-none h = rw (eq, none-in queued (omega arith))
+    where
+      none-in : (m : ℕ) → m ≡ 0 → pairsOf m ws ≡ []
+      none-in zero h = refl
+      none-in (suc m) h = absurd (omega arith)
+
+  pub pop-some : (ws' : List ℕ) → (n ≡ 0 → ⊥) → take (n - 1) ws' ≡ drop 1 (take n ws) → (withShared graphKind s (withQueue (pairsOf (n - 1) ws') (s .state .shared)), Popped (pairOf (getD ws 0 0))) ≡ call graphKind s Pop
+  unfolding call popped
+  pop-some ws' h e = rw (eq, e, same)
+    where
+      same : pairsOf queued ws ≡ pairOf (getD ws 0 0) ∷ map pairOf (drop 1 (take n ws))
+      same = ap (map pairOf) (sym (take-min queued 256 ws n l en) ∙ split n ws h l)
+
+-- ---- reset
+
+module _ (s : Machine graphKind) (n : ℕ) (x : State ℕ) (e : outcome n x ≡ resetMode (graphNavigator (s .bindings)) (s .state)) where
+  pub reset-refused : (n ≡ 0 → ⊥) → (s, Refused n) ≡ call graphKind s Reset
+  unfolding call settled reset-call
+  reset-refused h = rw (← e) (pick n h)
+    where
+      pick : (n : ℕ) → (n ≡ 0 → ⊥) → (s, Refused n) ≡ settled graphKind s (outcome n x >>= λ m. accept (withState graphKind s m))
+      pick zero h = absurd (h refl)
+      pick (suc n) h = refl
+
+  pub reset-done : n ≡ 0 → (withState graphKind s x, Accepted) ≡ call graphKind s Reset
+  unfolding call settled reset-call
+  reset-done h = rw (← e, h)
+
+pub reset-is : (g : Graph) (r : Result (State ℕ)) (place mode : ℕ) (t : Tables) (x : Context) (q : List Pair) (tr : List ℕ) (ts ts' : List Tracker) → ts' ≡ map broke ts
+    → r ≡ gotoMode (graphNavigator g) 0 (shared t mode x q tr ts') → r ≡ resetMode (graphNavigator g) (at place (shared t mode x q tr ts))
+unfolding resetMode
+reset-is g r place mode t x q tr ts ts' e p = p ∙ ap (λ (ts : List Tracker). gotoMode (graphNavigator g) 0 (shared t mode x q tr ts)) e
+
+module _ (ws₀ ws : List ℕ) (i : ℕ) where
+  pub break-on : (new : List ℕ) (k : ℕ) → length ws ≡ 520 → i < 8 → trackersOf ws ≡ map broke (take i (trackersOf ws₀)) ++ drop i (trackersOf ws₀) → k ≡ 65 → length new ≡ 65
+      → trackerOf new ≡ broke (trackerOf (take k (drop (i * 65) ws)))
+      → trackersOf (take (i * 65) ws ++ (new ++ drop k (drop (i * 65) ws))) ≡ map broke (take (i + 1) (trackersOf ws₀)) ++ drop (i + 1) (trackersOf ws₀)
+  break-on new k l h inv ek ln e =
+      let n : i < length (trackersOf ws₀) = omega (arith, length-map (blocks 65 8 ws₀) trackerOf, length-blocks 65 8 ws₀) in
+      let d : getD (trackersOf ws) i noTracker ≡ getD (trackersOf ws₀) i noTracker = ap (λ (r : List Tracker). getD r i noTracker) inv ∙ map-at broke (trackersOf ws₀) i noTracker n in
+      let v : trackerOf new ≡ broke (getD (trackersOf ws₀) i noTracker) = e ∙ ap (λ (j : ℕ). broke (trackerOf (take j (drop (i * 65) ws)))) ek ∙ ap broke (sym (tracker-at ws i l h) ∙ d) in
+      ap (λ (j : ℕ). trackersOf (take (i * 65) ws ++ (new ++ drop j (drop (i * 65) ws)))) ek ∙ trackers-back ws i l h new ln ∙ rw (v, inv) (map-more broke (trackersOf ws₀) i noTracker n)
+
+  pub break-end : 8 ≤ i → trackersOf ws ≡ map broke (take i (trackersOf ws₀)) ++ drop i (trackersOf ws₀) → trackersOf ws ≡ map broke (trackersOf ws₀)
+  break-end h inv =
+      let n : length (trackersOf ws₀) ≤ i = omega (arith, length-map (blocks 65 8 ws₀) trackerOf, length-blocks 65 8 ws₀) in
+      inv ∙ rw (take-all i (trackersOf ws₀) n, drop-of-length-le (trackersOf ws₀) n, append-nil)

@@ -1,0 +1,82 @@
+-- The stack of keys: the trail put back on it, and why 130 places are enough. Only what weighs more than one key decomposes,
+-- and into two that weigh one each, so the weight of stack and trail never rises.
+use Prim.Native.Nat.{ℕ, zero, suc, _+_, _-_, _*_, _/_, _≤_, _<_, min, zero-le}
+use mathlib.Core.Path.{_≡_, refl, sym, ap, _∙_}
+use mathlib.Core.List.{List, [], _∷_, _++_, append-assoc}
+use native.Mathlib.Omega.{arith}
+use native.Mathlib.Nat.{zero-add}
+use native.Mathlib.Numerals.{add-one}
+use lib.ListN.{length, take, drop, set, getD, length-take, length-drop, length-append, length-set, drop-of-length-le}
+use Rattle.keymachine.proofs.Lists.{drop-take}
+use lib.Seq.{getD-drop, drop-cons, paste, paste-suc, length-paste, length-paste-head, set-at, drop-at, length-take-le, take-nil, drop-set-lt, getD-set-same}
+
+module _ (stack trail : List ℕ) (at n key : ℕ) (es : length stack ≡ 130) (et : length trail ≡ 64) (h0 : 0 < n) (h1 : n ≤ 64) (h2 : n ≤ at) (h3 : at ≤ 130) where
+  pub back-length : (o : List ℕ) → o ≡ paste stack (at - n) (drop 1 trail) (n - 1) → length (set o (at - 1) key) ≡ 130
+  back-length o e =
+      let a : at - n + (n - 1) ≤ length stack = omega arith in
+      let b : n - 1 ≤ length (drop 1 trail) = omega (arith, length-drop 1 trail) in
+      length-set o (at - 1) key ∙ ap length e ∙ length-paste stack (at - n) (drop 1 trail) (n - 1) a b ∙ es
+
+  pub back-is : (o : List ℕ) → o ≡ paste stack (at - n) (drop 1 trail) (n - 1)
+      → drop (at - n) (set o (at - 1) key) ≡ drop 1 (take n trail) ++ key ∷ drop at stack
+  back-is o e =
+      let x : at - n + (n - 1) ≡ at - 1 = omega arith in
+      let i : at - 1 < length stack = omega arith in
+      let b : n - 1 ≤ length (drop 1 trail) = omega (arith, length-drop 1 trail) in
+      let c : at - n ≤ length stack = omega arith in
+      let s : suc (at - 1) ≡ at = omega arith in
+      let p : List ℕ = take (at - n) stack ++ take (n - 1) (drop 1 trail) in
+      let l : length p ≡ at - 1 = length-paste-head stack (at - n) (drop 1 trail) (n - 1) c b ∙ x in
+      rw (
+        e,
+        x,
+        drop-cons stack (at - 1) 0 i,
+        s,
+        set-at p _ (drop at stack) key (at - 1) l,
+        append-assoc,
+        drop-at (take (at - n) stack) _ (at - n) (length-take-le (at - n) stack c),
+        drop-take,
+      )
+
+-- the top of the stack after a store one below it
+pub drop-put : (l : List ℕ) (at x : ℕ) → 0 < at → at ≤ length l → drop (at - 1) (set l (at - 1) x) ≡ x ∷ drop at l
+drop-put l at x h g =
+    let i : at - 1 < length l = omega arith in
+    let j : at - 1 < length (set l (at - 1) x) = omega (arith, length-set l (at - 1) x) in
+    let s : suc (at - 1) ≡ at = omega arith in
+    let k : at - 1 < at = omega arith in
+    rw (drop-cons (set l (at - 1) x) (at - 1) 0 j, getD-set-same l (at - 1) x 0 i, s, drop-set-lt at l (at - 1) x k)
+
+-- ---- weights: a key that decomposes counts for two
+unfoldable pub weight : List ℕ → ℕ
+weight [] = 0
+weight (k ∷ ks) = 1 + min 1 (k / 32768) + weight ks
+
+pub weight-cons : (k : ℕ) (ks : List ℕ) → weight (k ∷ ks) ≡ 1 + min 1 (k / 32768) + weight ks
+unfolding weight
+weight-cons k ks = refl
+
+pub weight-nil : weight [] ≡ 0
+unfolding weight
+weight-nil = refl
+
+pub weight-append : (xs ys : List ℕ) → weight (xs ++ ys) ≡ weight xs + weight ys
+unfolding weight
+weight-append [] ys = sym (zero-add (weight ys))
+weight-append (x ∷ xs) ys = let h : weight (xs ++ ys) ≡ weight xs + weight ys = weight-append xs ys in omega arith
+
+pub length-weight : (xs : List ℕ) → length xs ≤ weight xs
+unfolding weight
+length-weight [] = zero-le
+length-weight (x ∷ xs) = let h : length xs ≤ weight xs = length-weight xs in omega arith
+
+pub weight-most : (n : ℕ) (xs : List ℕ) → weight (take n xs) ≤ 2 * length (take n xs)
+unfolding weight
+weight-most zero xs = zero-le
+weight-most (suc n) [] = zero-le
+weight-most (suc n) (x ∷ xs) = let r : weight (take n xs) ≤ 2 * length (take n xs) = weight-most n xs in omega arith
+
+pub weight-drop : (l : List ℕ) → weight (drop 1 l) ≤ weight l
+unfolding weight
+weight-drop [] = zero-le
+weight-drop (x ∷ l) = omega arith

@@ -1,0 +1,124 @@
+// One round: a following of the graph, the event hook, and what is to be done at the place come to.
+use crate::state::State;
+use keygraph::edge;
+use keygraph::follow;
+use keygraph::follow::FollowResult;
+use keygraph::graph::Counts;
+use keygraph::node;
+use keygraph::node::Node;
+use keygraph::node::NodeAction;
+use keygraph::step::Step;
+ghost use mathlib.Core.Path.{_≡_};
+ghost use mathlib.Core.List.{List};
+ghost use Rattle.rules.specs.Values as v;
+ghost use Rattle.rules.specs.Graph as g;
+ghost use Rattle.rules.specs.Calls as c;
+ghost use Rattle.keygraph.specs.View.{nodeOf, stepOf, edgesOf, classesOf, graphBy, graphIn};
+ghost use Rattle.keymachine.specs.Views.{resultBy, Turns};
+
+// The step of `RunStep` and `RetryAfter` stands beside the result, since an enum here holds no array.
+pub enum InputResult {
+    Again,
+    ClearTrail,
+    Consumed,
+    NeedMore,
+    Unmapped,
+    RunStep,
+    RetryAfter,
+}
+
+pub struct Turned {
+    pub result: InputResult,
+    pub state: State,
+    pub step: Step,
+}
+
+// A successor: a step, flagged or not, an empty node, a root.
+fn arrive(edges: &[u64], count: u16, node: Node, to: u16) -> InputResult
+    ensures { λ r. ⌜ ((ns : List g.Node) (ev : v.Event) → resultBy r (stepOf (node .step)) ≡ c.arrive (graphBy ns (edgesOf (now (edges .entry)) count)) to ev (nodeOf node .action) .result) ⌝ }
+{
+    let action = node.action;
+    let step = node.step;
+    match action {
+        NodeAction::Empty => return InputResult::NeedMore,
+        NodeAction::Root => return InputResult::Consumed,
+        NodeAction::Step => {
+            if step.unmapped {
+                if edge::has_edges(edges, count, to) {
+                    return InputResult::NeedMore;
+                }
+                return InputResult::Unmapped;
+            }
+            return InputResult::RunStep;
+        }
+    }
+}
+
+// A fallthrough: to an empty node, a root, or a step, whose flag is not looked at.
+fn land(node: Node, to: u16) -> InputResult
+    ensures { λ r. ⌜ resultBy r (stepOf (node .step)) ≡ c.land to (nodeOf node .action) .result ⌝ }
+{
+    let action = node.action;
+    match action {
+        NodeAction::Empty => return InputResult::Again,
+        NodeAction::Root => return InputResult::ClearTrail,
+        NodeAction::Step => return InputResult::RetryAfter,
+    }
+}
+
+pub(crate) fn turn<'a>(
+    edges: &'a [u64],
+    heads: &'a [u64],
+    acts: &'a [u64],
+    counts: Counts,
+    classes: &'a [u64],
+    entries: u16,
+    s: State,
+    key: u16,
+) -> Turned
+    ensures { λ r. ⌜ Turns (c.turnBy (graphIn (now (heads .entry)) (now (acts .entry)) (now (edges .entry)) counts) (s .place) (g.followEdge (classesOf (now (classes .entry)) entries) (graphIn (now (heads .entry)) (now (acts .entry)) (now (edges .entry)) counts) (s .place) key)) key s r ⌝ }
+{
+    let f = follow::follow_edge(edges, counts.edges, classes, entries, s.place, key);
+    match f {
+        FollowResult::Successor(event, to) => {
+            let node = node::node_at(heads, acts, counts.nodes, to);
+            let result = arrive(edges, counts.edges, node, to);
+            let step = node.step;
+            let context = s.context;
+            let hooked = context.event(event, key);
+            return Turned {
+                result: result,
+                state: State {
+                    place: to,
+                    mode: s.mode,
+                    context: hooked,
+                    queued: s.queued,
+                },
+                step: step,
+            };
+        }
+        FollowResult::Fallthrough(to) => {
+            let node = node::node_at(heads, acts, counts.nodes, to);
+            let result = land(node, to);
+            let step = node.step;
+            let context = s.context;
+            return Turned {
+                result: result,
+                state: State {
+                    place: to,
+                    mode: s.mode,
+                    context: context,
+                    queued: s.queued,
+                },
+                step: step,
+            };
+        }
+        FollowResult::NoSuccessor => {
+            return Turned {
+                result: InputResult::Unmapped,
+                state: s,
+                step: Step::default(),
+            };
+        }
+    }
+}
