@@ -1,0 +1,306 @@
+// The calls, one after another, each on the machine that the one before left.
+use crate::parts;
+use crate::print;
+use keygraph::step::Step;
+use keymachine::context::Context;
+use keymachine::context::Override;
+use keymachine::machine::ModalMachine;
+use mapfile::cursor::Cursor;
+
+// The machine, and the place after the call.
+struct Played {
+    machine: ModalMachine,
+    cursor: Cursor,
+}
+
+struct OverRead {
+    over: Override,
+    cursor: Cursor,
+}
+
+fn end_line(machine: ModalMachine) {
+    print::mode(machine.mode());
+}
+
+// A call with a number that has no value of its type.
+fn unknown(machine: ModalMachine, cursor: Cursor) -> Played {
+    print::refused(1);
+    end_line(machine);
+    Played {
+        machine: machine,
+        cursor: cursor,
+    }
+}
+
+// Mode, path and step.
+fn play_map(s: &[u8], from: Cursor, machine: ModalMachine) -> Played {
+    let mode = from.number(s);
+    let a = mode.cursor;
+    let path = parts::read_path(s, a);
+    let b = path.cursor;
+    let step = parts::read_step(s, b);
+    let c = step.cursor;
+    if c.refusal != 0 {
+        return Played {
+            machine: machine,
+            cursor: c,
+        };
+    }
+    if path.known {
+        if step.known {
+            let to = path.path;
+            let does = step.step;
+            let r = machine.add_mapping(mode.value, to, does);
+            let left = r.machine;
+            let answer = r.answer;
+            print::settled(answer);
+            end_line(left);
+            return Played {
+                machine: left,
+                cursor: c,
+            };
+        }
+    }
+    unknown(machine, c)
+}
+
+fn play_prefix(s: &[u8], from: Cursor, machine: ModalMachine) -> Played {
+    let mode = from.number(s);
+    let a = mode.cursor;
+    let path = parts::read_path(s, a);
+    let c = path.cursor;
+    if c.refusal != 0 {
+        return Played {
+            machine: machine,
+            cursor: c,
+        };
+    }
+    if path.known {
+        let to = path.path;
+        let none = Step::default();
+        let r = machine.add_prefix(mode.value, to, false, none);
+        let left = r.machine;
+        let answer = r.answer;
+        print::settled(answer);
+        end_line(left);
+        return Played {
+            machine: left,
+            cursor: c,
+        };
+    }
+    unknown(machine, c)
+}
+
+fn play_prefix_step(s: &[u8], from: Cursor, machine: ModalMachine) -> Played {
+    let mode = from.number(s);
+    let a = mode.cursor;
+    let path = parts::read_path(s, a);
+    let b = path.cursor;
+    let step = parts::read_step(s, b);
+    let c = step.cursor;
+    if c.refusal != 0 {
+        return Played {
+            machine: machine,
+            cursor: c,
+        };
+    }
+    if path.known {
+        if step.known {
+            let to = path.path;
+            let does = step.step;
+            let r = machine.add_prefix(mode.value, to, true, does);
+            let left = r.machine;
+            let answer = r.answer;
+            print::settled(answer);
+            end_line(left);
+            return Played {
+                machine: left,
+                cursor: c,
+            };
+        }
+    }
+    unknown(machine, c)
+}
+
+// Key and budget.
+fn play_key(s: &[u8], from: Cursor, machine: ModalMachine) -> Played {
+    let key = from.number(s);
+    let a = key.cursor;
+    let budget = a.number(s);
+    let c = budget.cursor;
+    if c.refusal != 0 {
+        return Played {
+            machine: machine,
+            cursor: c,
+        };
+    }
+    let r = machine.input_key(key.value, budget.value);
+    let left = r.machine;
+    let answer = r.answer;
+    print::pressed(answer);
+    end_line(left);
+    Played {
+        machine: left,
+        cursor: c,
+    }
+}
+
+fn play_pop(from: Cursor, machine: ModalMachine) -> Played {
+    let r = machine.pop();
+    let left = r.machine;
+    let answer = r.answer;
+    print::waiting(answer);
+    end_line(left);
+    Played {
+        machine: left,
+        cursor: from,
+    }
+}
+
+// 0, or 1 with a count and a mark; any other number is a malformed call.
+fn read_override(s: &[u8], from: Cursor) -> OverRead {
+    let k = from.number(s);
+    let a = k.cursor;
+    if k.value == 0 {
+        return OverRead {
+            over: Override::Nothing,
+            cursor: a,
+        };
+    }
+    if k.value > 1 {
+        return OverRead {
+            over: Override::Nothing,
+            cursor: Cursor {
+                at: a.at,
+                refusal: 9,
+            },
+        };
+    }
+    let count = a.number(s);
+    let b = count.cursor;
+    let mark = b.number(s);
+    let c = mark.cursor;
+    OverRead {
+        over: Override::By(Context {
+            count: count.value,
+            mark: mark.value,
+        }),
+        cursor: c,
+    }
+}
+
+fn play_repeat(s: &[u8], from: Cursor, machine: ModalMachine) -> Played {
+    let sequence = from.number(s);
+    let a = sequence.cursor;
+    let over = read_override(s, a);
+    let c = over.cursor;
+    if c.refusal != 0 {
+        return Played {
+            machine: machine,
+            cursor: c,
+        };
+    }
+    let by = over.over;
+    let r = machine.repeat(sequence.value, by);
+    let left = r.machine;
+    let answer = r.answer;
+    print::settled(answer);
+    end_line(left);
+    Played {
+        machine: left,
+        cursor: c,
+    }
+}
+
+fn play_reset(from: Cursor, machine: ModalMachine) -> Played {
+    let r = machine.reset_mode();
+    let left = r.machine;
+    let answer = r.answer;
+    print::settled(answer);
+    end_line(left);
+    Played {
+        machine: left,
+        cursor: from,
+    }
+}
+
+// Mode and action.
+fn play_find(s: &[u8], from: Cursor, machine: ModalMachine) -> Played {
+    let mode = from.number(s);
+    let a = mode.cursor;
+    let action = a.number(s);
+    let c = action.cursor;
+    if c.refusal != 0 {
+        return Played {
+            machine: machine,
+            cursor: c,
+        };
+    }
+    let found = machine.find(mode.value, action.value);
+    print::found(found);
+    end_line(machine);
+    Played {
+        machine: machine,
+        cursor: c,
+    }
+}
+
+fn play_hint(from: Cursor, machine: ModalMachine) -> Played {
+    print::free(machine.free_nodes());
+    end_line(machine);
+    Played {
+        machine: machine,
+        cursor: from,
+    }
+}
+
+fn play_call(s: &[u8], from: Cursor, machine: ModalMachine) -> Played {
+    let kind = from.number(s);
+    let c = kind.cursor;
+    if c.refusal != 0 {
+        return Played {
+            machine: machine,
+            cursor: c,
+        };
+    }
+    let which = kind.value;
+    match which {
+        0 => play_map(s, c, machine),
+        1 => play_prefix(s, c, machine),
+        2 => play_prefix_step(s, c, machine),
+        3 => play_key(s, c, machine),
+        4 => play_pop(c, machine),
+        5 => play_repeat(s, c, machine),
+        6 => play_reset(c, machine),
+        7 => play_find(s, c, machine),
+        8 => play_hint(c, machine),
+        _ => Played {
+            machine: machine,
+            cursor: Cursor {
+                at: c.at,
+                refusal: 9,
+            },
+        },
+    }
+}
+
+// To the end of the input, or to the first call that is malformed.
+pub fn play_calls(s: &[u8], from: Cursor, start: ModalMachine) {
+    let mut machine = start;
+    let mut at = from;
+    let mut left = s.len();
+    while 0 < left {
+        if s.len() <= at.at {
+            return;
+        }
+        let r = play_call(s, at, machine);
+        let c = r.cursor;
+        if c.refusal != 0 {
+            print::refused_line(c.refusal);
+            return;
+        }
+        machine = r.machine;
+        at = c;
+        left = left - 1;
+    }
+}

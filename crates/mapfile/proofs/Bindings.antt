@@ -1,0 +1,162 @@
+-- Bindings. What is added is what the rules' call comes to, and a refusal met in reading is kept; so a row of numbers with the
+-- call at its end is the rules' reading of a binding, and bindings in a row are read as the rules read them.
+use Prim.Native.Nat.{ℕ, zero, suc, _-_, _≤_, _<_}
+use native.Mathlib.Omega.{arith}
+use native.Mathlib.Numerals.{sub-one}
+use mathlib.Core.Path.{_≡_, refl, sym, ap, _∙_, subst}
+use mathlib.Core.Bool.{Bool, true, false}
+use mathlib.Core.Option.{Option, none, some}
+use mathlib.Core.List.{List, [], _∷_}
+use lib.ListN.{length, drop, drop-of-length-le}
+use lib.Seq.{drop-cons}
+use Rattle.rules.specs.Basics.{Result, accept, refuse, _>>=_}
+use Rattle.rules.specs.Values.{Part, Step, isMode, mostParts}
+use Rattle.rules.specs.Graph.{Graph, freshGraph}
+use Rattle.rules.specs.Calls.{Machine, graphKind, fresh, withBindings, map-call, prefix-call}
+use Rattle.rules.specs.Tables.{Tables}
+use Rattle.rules.specs.Numbers.{number}
+use Rattle.rules.specs.MapFile.{Reader, thenRead, lifted, such, upTo, listOf, readPart, readStep, bindBy, readBinding, readBindings, readTables, readMachine, atEnd, readMap}
+use Rattle.keygraph.specs.View.{resultBy}
+use Rattle.keygraph.specs.declared.graph.Answer.{Answer}
+use Rattle.keygraph.specs.declared.graph.Answer.the-variants.{Accepted, Refused}
+use Rattle.mapfile.specs.declared.cursor.Cursor.{Cursor}
+use Rattle.mapfile.specs.View.{outcome, cursorOf, with, Reads, Comes, machineBy}
+
+-- ---- coming to an answer
+
+module _ {A B : Type 0} where
+  pub comes : {x y : Result (List ℕ)} {r : Reader A} {a : A} {z : Result (B × List ℕ)} (f : A → Reader B) → Reads x r a y → Comes y (f a) z → Comes x (λ bs. thenRead (r bs) f) z
+  comes {x} {y} {r} {a} {z} f p q = record { is = q .is ∙ go x y (p .is) }
+    where
+      first : (y : Result (List ℕ)) (m : Result (A × List ℕ)) → with a y ≡ m → (y >>= f a) ≡ thenRead m f
+      first (accept bs) m e = ap (λ m. thenRead m f) e
+      first (refuse n) m e = ap (λ m. thenRead m f) e
+
+      go : (x y : Result (List ℕ)) → with a y ≡ (x >>= r) → (y >>= f a) ≡ (x >>= λ bs. thenRead (r bs) f)
+      go (accept bs) y e = first y (r bs) e
+      go (refuse n) y e = first y (refuse n) e
+
+module _ {A : Type 0} (s : List ℕ) (c : Cursor) (r : Reader A) where
+  pub comes-refused : (c .refusal ≡ 0 → ⊥) → Comes (cursorOf s c) r (refuse (c .refusal))
+  unfolding cursorOf
+  comes-refused h = record { is = go (c .refusal) h }
+    where
+      go : (n : ℕ) → (n ≡ 0 → ⊥) → refuse n ≡ (outcome n (drop (c .at) s) >>= r)
+      go zero h = absurd (h refl)
+      go (suc n) h = refl
+
+  pub comes-at : {z : Result (A × List ℕ)} → c .refusal ≡ 0 → z ≡ r (drop (c .at) s) → Comes (cursorOf s c) r z
+  unfolding cursorOf
+  comes-at h e = record { is = e ∙ sym (ap (λ n. outcome n (drop (c .at) s) >>= r) h) }
+
+-- from a place that is not refused
+pub come-from : {A : Type 0} (s : List ℕ) (r : Reader A) (at : ℕ) {z : Result (A × List ℕ)} → Comes (cursorOf s (record { at = at; refusal = 0 })) r z → z ≡ r (drop at s)
+unfolding cursorOf
+come-from s r at h = h .is
+
+-- ---- the call at the end
+
+module _ (s : List ℕ) (c : Cursor) (ans : Answer) (g : Graph) (m : Machine graphKind) where
+  abbrev after-call : Result Graph → Result (Machine graphKind)
+  after-call x = x >>= λ b. accept (withBindings graphKind m b)
+
+  pub bound : {x : Result Graph} → c .refusal ≡ 0 → resultBy ans g ≡ x
+      → Comes (cursorOf s c) (lifted (after-call x)) (resultBy ans (withBindings graphKind m g, drop (c .at) s))
+  unfolding cursorOf
+  bound {x} h e =
+      record { is = go ans ∙ ap (λ x. lifted (after-call x) (drop (c .at) s)) e ∙ sym (ap (λ n. outcome n (drop (c .at) s) >>= lifted (after-call x)) h) }
+    where
+      go : (ans : Answer) → resultBy ans (withBindings graphKind m g, drop (c .at) s) ≡ lifted (after-call (resultBy ans g)) (drop (c .at) s)
+      go Accepted = refl
+      go (Refused n) = refl
+
+-- ---- a binding
+
+module _ (m : Machine graphKind) where
+  abbrev after-mode : ℕ → ℕ → Reader (Machine graphKind)
+  after-mode kind mode = λ bs. thenRead (listOf mostParts readPart bs) (λ path. bindBy kind mode path m)
+
+  abbrev after-kind : ℕ → Reader (Machine graphKind)
+  after-kind kind = λ bs. thenRead (such isMode bs) (after-mode kind)
+
+module _ (m : Machine graphKind) {x₀ x₁ x₂ x₃ : Result (List ℕ)} {z : Result (Machine graphKind × List ℕ)} {kind mode : ℕ} {path : List Part} where
+  row : Reads x₀ (upTo 2) kind x₁ → Reads x₁ (such isMode) mode x₂ → Reads x₂ (listOf mostParts readPart) path x₃ → Comes x₃ (bindBy kind mode path m) z → Comes x₀ (readBinding m) z
+  row p q r h = comes (after-kind m) p (comes (after-mode m kind) q (comes (λ path. bindBy kind mode path m) r h))
+
+  pub prefix-alone : Reads x₀ (upTo 2) kind x₁ → Reads x₁ (such isMode) mode x₂ → Reads x₂ (listOf mostParts readPart) path x₃ → kind ≡ 1
+      → Comes x₃ (lifted (prefix-call graphKind mode path none m)) z → Comes x₀ (readBinding m) z
+  unfolding bindBy
+  prefix-alone p q r e h = row p q r (subst (λ k. Comes x₃ (bindBy k mode path m) z) (sym e) h)
+
+  module _ {x₄ : Result (List ℕ)} {st : Step} where
+    pub mapping-step : Reads x₀ (upTo 2) kind x₁ → Reads x₁ (such isMode) mode x₂ → Reads x₂ (listOf mostParts readPart) path x₃ → kind ≡ 0
+        → Reads x₃ readStep st x₄ → Comes x₄ (lifted (map-call graphKind mode path st m)) z → Comes x₀ (readBinding m) z
+    unfolding bindBy
+    mapping-step p q r e t h =
+        row p q r (subst (λ k. Comes x₃ (bindBy k mode path m) z) (sym e) (comes (λ st. lifted (map-call graphKind mode path st m)) t h))
+
+    pub prefix-step : Reads x₀ (upTo 2) kind x₁ → Reads x₁ (such isMode) mode x₂ → Reads x₂ (listOf mostParts readPart) path x₃ → (kind ≡ 0 → ⊥) → (kind ≡ 1 → ⊥)
+        → Reads x₃ readStep st x₄ → Comes x₄ (lifted (prefix-call graphKind mode path (some st) m)) z → Comes x₀ (readBinding m) z
+    unfolding bindBy
+    prefix-step p q r e f t h = row p q r (go kind e f)
+      where
+        go : (kind : ℕ) → (kind ≡ 0 → ⊥) → (kind ≡ 1 → ⊥) → Comes x₃ (bindBy kind mode path m) z
+        go zero e f = absurd (e refl)
+        go (suc zero) e f = absurd (f refl)
+        go (suc (suc k)) e f = comes (λ st. lifted (prefix-call graphKind mode path (some st) m)) t h
+
+-- ---- bindings in a row
+
+module _ (ans : Answer) (left : ℕ) (m m₁ : Machine graphKind) (bs bs₁ : List ℕ) where
+  next : 0 < left → resultBy ans (m₁, bs₁) ≡ readBinding m bs → thenRead (resultBy ans (m₁, bs₁)) (readBindings (left - 1)) ≡ readBindings left m bs
+  unfolding readBindings
+  next h e = go left h
+    where
+      go : (left : ℕ) → 0 < left → thenRead (resultBy ans (m₁, bs₁)) (readBindings (left - 1)) ≡ readBindings left m bs
+      go zero h = absurd (omega arith)
+      go (suc k) h = rw (sub-one (suc k)) (ap (λ r. thenRead r (readBindings k)) e)
+
+  pub one-more : 0 < left → ans ≡ Accepted → resultBy ans (m₁, bs₁) ≡ readBinding m bs → readBindings (left - 1) m₁ bs₁ ≡ readBindings left m bs
+  one-more h a e = sym (ap (λ ans. thenRead (resultBy ans (m₁, bs₁)) (readBindings (left - 1))) a) ∙ next h e
+
+  pub no-more : (n : ℕ) → 0 < left → ans ≡ Refused n → resultBy ans (m₁, bs₁) ≡ readBinding m bs → resultBy ans (m₁, bs₁) ≡ readBindings left m bs
+  no-more n h a e = ap (λ ans. resultBy ans (m₁, bs₁)) a ∙ sym (ap (λ ans. thenRead (resultBy ans (m₁, bs₁)) (readBindings (left - 1))) a) ∙ next h e
+
+pub none-left : (left : ℕ) (m : Machine graphKind) (bs : List ℕ) → left ≡ 0 → accept (m, bs) ≡ readBindings left m bs
+unfolding readBindings
+none-left left m bs e = sym (ap (λ n. readBindings n m bs) e)
+
+-- ---- the file
+
+abbrev after-tables : Tables → Reader (Machine graphKind)
+after-tables t = λ bs. thenRead (number bs) (λ n. readBindings n (fresh graphKind t))
+
+module _ {x₀ x₁ x₂ : Result (List ℕ)} {t : Tables} {n : ℕ} {z : Result (Machine graphKind × List ℕ)} where
+  pub file : Reads x₀ readTables t x₁ → Reads x₁ number n x₂ → Comes x₂ (readBindings n (fresh graphKind t)) z → Comes x₀ readMachine z
+  file p q h = comes after-tables p (comes (λ n. readBindings n (fresh graphKind t)) q h)
+
+-- the fresh machine's graph is the fresh graph
+pub from-fresh : (n : ℕ) (t : Tables) (g : Graph) (bs : List ℕ) → g ≡ freshGraph → readBindings n (machineBy g (fresh graphKind t .state)) bs ≡ readBindings n (fresh graphKind t) bs
+unfolding fresh
+from-fresh n t g bs e = ap (λ g. readBindings n (machineBy g (fresh graphKind t .state)) bs) e
+
+module _ (s : List ℕ) (at : ℕ) (m : Machine graphKind) where
+  pub ended : length s ≤ at → accept m ≡ atEnd (accept (m, drop at s))
+  unfolding atEnd
+  ended h = rw (drop-of-length-le s h)
+
+  pub left-over : at < length s → refuse 9 ≡ atEnd (accept (m, drop at s))
+  unfolding atEnd
+  left-over h = rw (drop-cons s at 0 h)
+
+pub end-refused : (n : ℕ) → refuse n ≡ atEnd {A = Machine graphKind} (refuse n)
+unfolding atEnd
+end-refused n = refl
+
+pub map-refused : (n : ℕ) (s : List ℕ) → refuse n ≡ readMachine s → refuse n ≡ readMap s
+unfolding readMap
+map-refused n s e = end-refused n ∙ ap atEnd e
+
+pub map-ended : {r : Result (Machine graphKind)} {z : Result (Machine graphKind × List ℕ)} (s : List ℕ) → z ≡ readMachine s → r ≡ atEnd z → r ≡ readMap s
+unfolding readMap
+map-ended s e h = h ∙ ap atEnd e

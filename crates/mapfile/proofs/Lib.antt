@@ -1,0 +1,12 @@
+pub mod NumberAt
+pub mod Round
+pub mod Reading
+pub mod Writing
+pub mod Parts
+pub mod Rows
+pub mod TableWords
+pub mod Bindings
+pub mod KeyBytes
+pub mod PairBytes
+pub mod Playing
+pub mod Runs

@@ -1,0 +1,62 @@
+-- The map, then the keys, then the playing: the order of the definition, and each refusal ends it.
+use mathlib.Core.Path.{sym, ap, _∙_, subst}
+use mathlib.Core.List.{[]}
+use mathlib.Core.Bool.{true}
+use Rattle.rules.specs.Run.{readKeys, playKeys}
+use Rattle.mapfile.specs.View.{mapOf, Checked, Ends}
+use Rattle.mapfile.proofs.Runs.{map-ends, keys-end, plays}
+use borrow.Author.Needs.{needs}
+use Rattle.mapfile.proofs.play.play.Statement.{statement}
+use Rattle.mapfile.proofs.play.play.Tie as tie
+
+read-map-requires : tie.Need-read-map-requires
+read-map-requires c κs = search needs
+
+enum-known-answer : tie.Need-enum-known-answer
+enum-known-answer c = search needs
+
+returns : tie.Need-returns
+returns c =
+    let a = c .before .before .before .before .before .before .before .args in
+    let m = c .before .before .before .read-map in
+    (tt, λ lent e. map-ends (a .map .now) (a .keys .now) (a .budget) lent (m .result .answer) (mapOf (m .result)) (m .ensures) _ _ _ (c .before .answer .given .1))
+
+enum-told : tie.Need-enum-told
+enum-told c = search needs
+
+check-keys-requires : tie.Need-check-keys-requires
+check-keys-requires c κs = search needs
+
+play-keys-requires : tie.Need-play-keys-requires
+play-keys-requires c κs = search needs
+
+same-length : tie.Need-same-length
+same-length c = search needs
+
+returns-2 : tie.Need-returns-2
+returns-2 c =
+    let a = c .before .before .before .before .before .before .before .before .before .before .before .before .before .before .before .before .before .before .before .before .before .before .before .before .before .before .before .args in
+    let m = c .before .before .before .before .before .before .before .before .before .before .before .before .before .before .before .before .before .before .before .before .before .before .before .read-map in
+    let p = c .before .before .play-keys in
+    let k : Checked true (readKeys (a .keys .now)) = subst (λ b. Checked b (readKeys (a .keys .now))) (c .before .before .before .before .before .before .before .before .before .before .before .before .before .before .before .before .before .before .before .if1 .taken) (c .before .before .before .before .before .before .before .before .before .before .before .before .before .before .before .before .before .before .before .before .check-keys .ensures) in
+    (p .ensures .0, λ lent e. subst (λ x. Ends x (p .result) (a .out .now) (p .last .1 .1 .1 .1 .1 .1 .1 .1 .1 .0)) (ap (λ n. playKeys (a .budget) n (k .0) (mapOf (m .result)) []) e ∙ sym (plays (a .map .now) (a .keys .now) (a .budget) lent (m .result .answer) (mapOf (m .result)) (m .ensures) (c .before .before .before .before .before .before .before .before .before .before .before .before .before .before .before .before .before .before .before .before .before .enum-told .given .1) (k .0) (k .1))) (p .ensures .1 (k .0) (k .1)))
+
+returns-3 : tie.Need-returns-3
+returns-3 c =
+    let a = c .before .before .before .before .before .before .before .before .args in
+    let m = c .before .before .before .before .read-map in
+    (tt, λ lent e. keys-end (a .map .now) (a .keys .now) (a .budget) lent (m .result .answer) (mapOf (m .result)) (m .ensures) (c .before .before .enum-told .given .1) _ _ (subst (λ b. Checked b (readKeys (a .keys .now))) (c .if1 .left) (c .before .check-keys .ensures)))
+
+pub play-spec : {M : Type 1} → statement M
+play-spec =
+    tie.close
+    (tie.spec
+    read-map-requires
+    enum-known-answer
+    returns
+    enum-told
+    check-keys-requires
+    play-keys-requires
+    same-length
+    returns-2
+    returns-3)

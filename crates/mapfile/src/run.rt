@@ -1,0 +1,38 @@
+// The run, for the C firmware.
+use crate::play;
+use crate::play::Ran;
+use crate::write;
+ghost use mathlib.Core.Path.{_≡_};
+ghost use Prim.Native.Nat.{min};
+ghost use lib.ListN.{length};
+ghost use Rattle.rules.specs.Run.{run, codeOf, outputOf};
+
+// The bytes of the output that a run uses at most.
+pub const MOST_OUTPUT: usize = 65536;
+
+fn room_of(length: usize) -> usize
+    ensures { λ r. ⌜ r ≡ min length 65536 ⌝ }
+{
+    if length < MOST_OUTPUT {
+        return length;
+    }
+    MOST_OUTPUT
+}
+
+// Length × 32 + refusal. Accepted, the pairs' bytes stand in front of the output and the rest of it stays; refused, all of
+// it is zeros.
+#[no_mangle]
+pub extern "C" fn keymap_run(map: &[u8], keys: &[u8], output: &mut [u8], budget: u16) -> u64
+    ensures { λ r. ⌜ (r ≡ codeOf (run (now (map .entry)) (now (keys .entry)) budget (length (now (output .entry))))) × (now (output .exit) ≡ outputOf (now (output .entry)) (run (now (map .entry)) (now (keys .entry)) budget (length (now (output .entry))))) ⌝ }
+{
+    let end = output.len();
+    let room = room_of(end);
+    let r = play::play(map, keys, output, room, budget);
+    match r {
+        Ran::Wrote(n) => return (n as u64) * 32,
+        Ran::Refused(n) => {
+            write::clear(output, end);
+            return n as u64;
+        }
+    }
+}
