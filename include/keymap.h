@@ -1,4 +1,5 @@
-/* The run of a key map, for C: link libmapfile.a. */
+/* Key maps for C: the run of a key map (link libmapfile.a), and one machine that is kept and lent to each call (link
+ * libhost.a). */
 #ifndef KEYMAP_H
 #define KEYMAP_H
 
@@ -29,6 +30,58 @@ uint64_t keymap_run(
 
 #define KEYMAP_LENGTH(result) ((size_t)((result) / 32))
 #define KEYMAP_REFUSAL(result) ((unsigned)((result) % 32))
+
+/*
+ * One machine that the firmware keeps and lends to each call.
+ *
+ * It is keymap_size() bytes at an address that is a multiple of KEYMAP_ALIGN, and nobody else reads or writes them during a
+ * call. Any bytes are some machine, so they only have to be written once before the first call, as calloc does; what they
+ * mean is the library's own. A machine holds no pointer: its bytes may be copied, kept and put back.
+ */
+typedef struct keymap_machine keymap_machine;
+
+#define KEYMAP_ALIGN 8
+
+/* The bytes of a machine. */
+size_t keymap_size(void);
+
+/*
+ * Reads a map whole: its tables and its bindings. Accepted, the machine is fresh with them: mode 0, no pair and no trail.
+ * The map is not needed afterwards, and the two must not overlap. Refused, the machine is as it was.
+ *
+ * The result is the refusal, KEYMAP_ACCEPTED or one of 1 to 4 and 9.
+ */
+uint64_t keymap_open(keymap_machine *machine, const uint8_t *map, size_t map_count);
+
+/*
+ * Tries one key with a budget of rounds. Its pairs then wait to be popped. Refused, the machine is as it was.
+ *
+ * The result is rounds * 32 + refusal: KEYMAP_ROUNDS and KEYMAP_REFUSAL split it. The rounds made are told of a refused key
+ * too; its refusal is one of 5 to 8.
+ */
+uint64_t keymap_key(keymap_machine *machine, uint16_t key, uint16_t budget);
+
+#define KEYMAP_ROUNDS(result) ((unsigned)((result) / 32))
+
+/*
+ * Takes the first waiting pair. Nothing is ever refused.
+ *
+ * The result is 0 where no pair waits. Else it is action + count * 2^16 + mark * 2^32 + 2^48: KEYMAP_WAITS says that there
+ * was a pair, and KEYMAP_ACTION, KEYMAP_COUNT and KEYMAP_MARK split it.
+ */
+uint64_t keymap_pop(keymap_machine *machine);
+
+#define KEYMAP_WAITS(result) ((result) != 0)
+#define KEYMAP_ACTION(result) ((unsigned)((result) & 0xffff))
+#define KEYMAP_COUNT(result) ((unsigned)((result) >> 16 & 0xffff))
+#define KEYMAP_MARK(result) ((unsigned)((result) >> 32 & 0xffff))
+
+/*
+ * Enters mode 0 anew and breaks every sequence; the trail is kept. Refused, the machine is as it was.
+ *
+ * The result is the refusal: KEYMAP_ACCEPTED, KEYMAP_QUEUE or KEYMAP_SEQUENCE.
+ */
+uint64_t keymap_reset(keymap_machine *machine);
 
 /* The refusals: the first met, in reading and then in running. */
 enum {

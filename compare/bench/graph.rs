@@ -1,6 +1,8 @@
-// Times of the key graph's functions. Build with the archive of the crate `bench`.
+//! Times of the key graph's functions, by the archive of the crate `bench`.
+
 use std::hint::black_box;
-use std::time::Instant;
+
+use crate::timing::{clock, compare, Times};
 
 extern "C" {
     fn bench_follow(
@@ -17,64 +19,104 @@ extern "C" {
     fn bench_add_by_value(n: u16) -> u16;
 }
 
-// an edge's word, as the key graph packs it
+/// A key that no edge takes.
+const NOBODYS: u16 = 60_000;
+
+/// What a following to no node answers.
+const NOWHERE: u16 = 65_535;
+
+/// An edge's word, as the key graph packs it.
 fn edge(from: u64, code: u64, to: u64) -> u64 {
-    to + 65536 * (from + 65536 * code)
+    to + 65_536 * (from + 65_536 * code)
 }
 
-// the best of some runs, in nanoseconds a call
-fn best(calls: u32, mut f: impl FnMut()) -> f64 {
-    let mut least = f64::MAX;
-    for _ in 0..15 {
-        let start = Instant::now();
-        f();
-        least = least.min(start.elapsed().as_nanos() as f64 / calls as f64);
+/// A class's word, as the key graph packs it.
+fn class(class: u64, low: u64, high: u64) -> u64 {
+    class + 65_536 * (low + 65_536 * high)
+}
+
+fn follow_once(edges: &[u64], classes: &[u64], key: u16) -> u16 {
+    let (count, entries) = (edges.len() as u16, classes.len() as u16);
+    unsafe {
+        bench_follow(
+            edges.as_ptr(),
+            edges.len(),
+            count,
+            classes.as_ptr(),
+            classes.len(),
+            entries,
+            black_box(0),
+            black_box(key),
+        )
     }
-    least
 }
 
-fn follow(edges: &[u64], classes: &[u64], entries: u16, key: u16) -> f64 {
-    const CALLS: u32 = 200_000;
-    best(CALLS, || {
-        for _ in 0..CALLS {
-            black_box(unsafe {
-                bench_follow(
-                    edges.as_ptr(),
-                    edges.len(),
-                    edges.len() as u16,
-                    classes.as_ptr(),
-                    classes.len(),
-                    entries,
-                    black_box(0),
-                    black_box(key),
-                )
-            });
-        }
-    })
+/// Nanoseconds of a following from node 0.
+fn follow(edges: &[u64], classes: &[u64], key: u16) -> Times {
+    const CALLS: usize = 20_000;
+    let [times] = compare([&mut || {
+        clock(|| {
+            for _ in 0..CALLS {
+                black_box(follow_once(edges, classes, key));
+            }
+        })
+    }]);
+    times.each(CALLS)
 }
 
-fn main() {
-    for n in [10u64, 50, 200, 1000, 2048] {
-        let edges: Vec<u64> = (0..n).map(|i| edge(i % 40, i, 16 + i % 1000)).collect();
-        println!(
-            "follow at {n} edges: hit at the end {:.1} ns, miss without class {:.1} ns",
-            follow(&edges, &[], 0, (n - 1) as u16 / 40 * 40),
-            follow(&edges, &[], 0, 60000)
-        );
+/// The three followings at so many edges: a Key edge near the end, no edge and no class, and no edge but one class.
+pub struct Followings {
+    pub edges: usize,
+    pub hit: Times,
+    pub miss: Times,
+    pub class: Times,
+}
+
+pub fn followings(n: usize) -> Followings {
+    let edges: Vec<u64> = (0..n as u64).map(|i| edge(i % 40, i, 16 + i % 1000)).collect();
+    let last = ((n - 1) / 40 * 40) as u16;
+    let digits = [class(0, NOBODYS as u64 - 1, NOBODYS as u64 + 1)];
+    assert_eq!(follow_once(&edges, &[], last), 16 + last % 1000);
+    assert_eq!(follow_once(&edges, &[], NOBODYS), NOWHERE);
+    assert_eq!(follow_once(&edges, &digits, NOBODYS), NOWHERE);
+    // the class's word means what is meant by it: with an edge for the class, the key goes along it
+    let with_class = [&edges[..], &[edge(0, 65_536, 77)]].concat();
+    assert_eq!(follow_once(&with_class, &digits, NOBODYS), 77);
+    Followings {
+        edges: n,
+        hit: follow(&edges, &[], last),
+        miss: follow(&edges, &[], NOBODYS),
+        class: follow(&edges, &digits, NOBODYS),
     }
-    for (name, f) in
-        [("in place", bench_add_in_place as unsafe extern "C" fn(u16) -> u16), ("by value", bench_add_by_value)]
-    {
-        let time = |n: u16| {
-            best(1, || {
-                black_box(unsafe { f(black_box(n)) });
+}
+
+/// Nanoseconds to add a binding of two keys to a graph of 976 to 1,036 nodes, in place and by value.
+pub fn adding() -> [Times; 2] {
+    const FEW: u16 = 480;
+    const MANY: u16 = 510;
+    const TIMES: usize = 5;
+    type Add = unsafe extern "C" fn(u16) -> u16;
+    let turn = |add: Add, n: u16| {
+        move || {
+            clock(|| {
+                for _ in 0..TIMES {
+                    let nodes = unsafe { add(black_box(n)) };
+                    assert_eq!(nodes, 16 + 2 * n);
+                }
             })
-        };
-        let (few, many) = (time(480), time(510));
-        println!(
-            "add {name}, at 960 to 1,020 nodes: {:.2} us; all 510: {:.0} us",
-            (many - few) / 30.0 / 1000.0,
-            many / 1000.0
-        );
-    }
+        }
+    };
+    let [few, many, few_by_value, many_by_value] = compare([
+        &mut turn(bench_add_in_place, FEW),
+        &mut turn(bench_add_in_place, MANY),
+        &mut turn(bench_add_by_value, FEW),
+        &mut turn(bench_add_by_value, MANY),
+    ]);
+    let each = |few: Times, many: Times| many.less(few).each((MANY - FEW) as usize * TIMES);
+    [each(few, many), each(few_by_value, many_by_value)]
+}
+
+/// So many bindings by value, for the stack that they use.
+pub fn add_by_value(n: u16) {
+    black_box(unsafe { bench_add_by_value(black_box(n)) });
 }

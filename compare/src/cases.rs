@@ -1,10 +1,12 @@
 //! Random map files with key tapes, whole and damaged. A file is first the list of its numbers, so that a damage can hit
 //! one of them: another value, a longer form, a cut, a byte too many.
 
-use crate::calls::{Call, Event, Part, Repeat, Step, Tables};
+use crate::calls::{Call, Event, ModeEntry, Part, Repeat, Step, Tables};
 use crate::gen::{Gen, Kind};
-use crate::mapfile::put_number;
+use crate::mapfile::{self, put_number};
+use crate::scenes;
 
+#[derive(Clone)]
 pub struct Case {
     pub map: Vec<u8>,
     pub keys: Vec<u8>,
@@ -23,7 +25,7 @@ fn optional(mode: Option<u16>) -> u32 {
     mode.map_or(0, |m| m as u32 + 1)
 }
 
-fn put_tables(t: &Tables, out: &mut Vec<u32>) {
+pub fn put_tables(t: &Tables, out: &mut Vec<u32>) {
     out.push(t.classes.len() as u32);
     for c in &t.classes {
         out.extend([c.class, c.low, c.high].map(u32::from));
@@ -60,7 +62,7 @@ fn put_step(s: &Step, out: &mut Vec<u32>) {
     out.extend([optional(s.next), optional(s.fallthrough), s.mark.unwrap_or(0) as u32]);
 }
 
-fn put_binding(kind: u32, mode: u16, path: &[Part], step: Option<&Step>, out: &mut Vec<u32>) {
+pub fn put_binding(kind: u32, mode: u16, path: &[Part], step: Option<&Step>, out: &mut Vec<u32>) {
     out.extend([kind, mode as u32, path.len() as u32]);
     path.iter().for_each(|p| put_part(p, out));
     if let Some(s) = step {
@@ -68,7 +70,7 @@ fn put_binding(kind: u32, mode: u16, path: &[Part], step: Option<&Step>, out: &m
     }
 }
 
-fn numbers_of(tables: &Tables, bindings: &[Call]) -> Vec<u32> {
+pub fn numbers_of(tables: &Tables, bindings: &[Call]) -> Vec<u32> {
     let mut out = vec![];
     put_tables(tables, &mut out);
     out.push(bindings.len() as u32);
@@ -83,7 +85,7 @@ fn numbers_of(tables: &Tables, bindings: &[Call]) -> Vec<u32> {
     out
 }
 
-fn bytes_of(numbers: &[u32]) -> Vec<u8> {
+pub fn bytes_of(numbers: &[u32]) -> Vec<u8> {
     let mut out = vec![];
     numbers.iter().for_each(|&n| put_number(n, &mut out));
     out
@@ -125,20 +127,37 @@ fn behind_a_fall(g: &mut Gen) -> Vec<Call> {
     vec![Call::Map(mode, path, falls), Call::Map(mode, on, g.step())]
 }
 
-/// The numbers' bytes, in `percent` of a hundred cases with one damage.
+/// The numbers' bytes, in `percent` of a hundred cases with one damage or two.
 fn damaged(mut numbers: Vec<u32>, percent: u64, g: &mut Gen) -> Vec<u8> {
     if !g.random.chance(percent) {
         return bytes_of(&numbers);
     }
     let at = g.random.below(numbers.len().max(1) as u64) as usize;
-    match g.random.below(4) {
+    match g.random.below(6) {
         0 if !numbers.is_empty() => {
             numbers[at] = g.random.pick(&EDGES);
             bytes_of(&numbers)
         },
         1 if !numbers.is_empty() => longer(&numbers, at, g),
+        2 if !numbers.is_empty() => {
+            numbers[at] = g.random.pick(&EDGES);
+            cut_behind(numbers, at, g)
+        },
+        3 if !numbers.is_empty() => {
+            let last = numbers.len() - 1;
+            cut_behind(numbers, last - g.random.below(2).min(last as u64) as usize, g)
+        },
         _ => damaged_bytes(bytes_of(&numbers), g),
     }
+}
+
+/// The numbers up to a place, and soon behind it no number: which of two refusals is met first?
+fn cut_behind(mut numbers: Vec<u32>, at: usize, g: &mut Gen) -> Vec<u8> {
+    numbers.truncate(at + g.random.below(3) as usize);
+    let mut bytes = bytes_of(&numbers);
+    let end: &[u8] = if g.random.chance(50) { &[0x80, 0x00] } else { &[] };
+    bytes.extend(end);
+    bytes
 }
 
 /// One number in a form with a group of zeros too many.
@@ -165,9 +184,85 @@ fn damaged_bytes(mut bytes: Vec<u8>, g: &mut Gen) -> Vec<u8> {
     bytes
 }
 
-/// The same case as the input of `keyplay`: the map's length, now and then a wrong one, the map and the keys.
+// ---- cases at every limit
+
+/// The case of a seed for a comparison at scale: a small one, the bindings and keys of a list, or one of full size.
+pub fn any_case_of(seed: u64) -> Case {
+    let mut g = Gen::new(seed, Kind::Long);
+    match g.random.below(10_000) {
+        0..=3999 => case_of(seed),
+        4000..=9991 => case_of_calls(&scenes::calls_of(seed), &mut g),
+        9992..=9996 => full_output(&mut g),
+        9997..=9998 => full_input(&mut g, many_keys),
+        _ => full_input(&mut g, many_bindings),
+    }
+}
+
+/// The bindings and keys of a list, behind the tables that it opens first.
+fn case_of_calls(calls: &[Call], g: &mut Gen) -> Case {
+    let tables =
+        calls.iter().find_map(|c| if let Call::Open(t) = c { Some(t.clone()) } else { None }).unwrap_or_default();
+    let is_binding = |c: &&Call| matches!(c, Call::Map(..) | Call::Prefix(..));
+    let bindings: Vec<Call> = calls.iter().filter(is_binding).cloned().collect();
+    let tape: Vec<u32> =
+        calls.iter().filter_map(|c| if let Call::Key { key, .. } = c { Some(*key as u32) } else { None }).collect();
+    let map = damaged(numbers_of(&tables, &bindings), 20, g);
+    let keys = damaged(tape, 5, g);
+    let budget = g.budget();
+    let room = room_for(&map, &keys, budget, g);
+    Case { map, keys, budget, lent: vec![0xAA; room] }
+}
+
+/// Room enough; or just enough, or a byte too little or too much.
+fn room_for(map: &[u8], keys: &[u8], budget: u16, g: &mut Gen) -> usize {
+    if g.random.chance(70) {
+        return g.random.pick(&[3000, 10_000]);
+    }
+    let length = mapfile::exported(map, keys, budget, &vec![0; 66_000]).map_or(0, |(code, _)| code as usize / 32);
+    (length + 1).saturating_sub(g.random.below(3) as usize)
+}
+
+/// About as many pairs of four bytes as fill 65,536, four for each key.
+fn full_output(g: &mut Gen) -> Case {
+    let entry = ModeEntry { unmapped: vec![200; 4], ..ModeEntry::default() };
+    let tables = Tables { modes: vec![entry], ..Tables::default() };
+    let keys = vec![97; 4095 + g.random.below(3) as usize];
+    let room = g.random.pick(&[65_535, 65_536, 65_537, 70_000]);
+    Case { map: bytes_of(&numbers_of(&tables, &[])), keys, budget: 1000, lent: vec![0xAA; room] }
+}
+
+/// About 65,536 bytes as the input of `keyplay`, which has three for the map's length; or far more, for the archive.
+fn full_input(g: &mut Gen, of: fn(usize) -> (Vec<u8>, Vec<u8>)) -> Case {
+    let size = g.random.pick(&[65_532, 65_533, 65_534, 150_000]);
+    let (map, keys) = of(size);
+    Case { map, keys, budget: 1000, lent: vec![0xAA; 100] }
+}
+
+/// So many bytes, most of them keys that a prefix takes. The map is padded to a length of three bytes.
+fn many_keys(size: usize) -> (Vec<u8>, Vec<u8>) {
+    let any = Call::Prefix(0, vec![Part { repeat: Repeat::Once, event: Event::Any }], None);
+    let empty = Call::Prefix(0, vec![], None);
+    let map = bytes_of(&numbers_of(&Tables::default(), &[vec![any], vec![empty; 5462]].concat()));
+    let keys = vec![97; size - map.len()];
+    (map, keys)
+}
+
+/// So many bytes, most of them bindings of an empty path, with a few keys.
+fn many_bindings(size: usize) -> (Vec<u8>, Vec<u8>) {
+    let count = (size - 10) / 3;
+    let map = bytes_of(&numbers_of(&Tables::default(), &vec![Call::Prefix(0, vec![], None); count]));
+    let keys = vec![97; size - map.len()];
+    (map, keys)
+}
+
+// ---- inputs of keyplay
+
 pub fn input_of(seed: u64) -> Vec<u8> {
-    let case = case_of(seed);
+    input_of_case(case_of(seed), seed)
+}
+
+/// A case as the input of `keyplay`: the map's length, now and then a wrong one, the map and the keys.
+pub fn input_of_case(case: Case, seed: u64) -> Vec<u8> {
     let mut g = Gen::new(seed, Kind::Plain);
     let length = match g.random.below(12) {
         0 => case.map.len() as u32 + g.random.below(9) as u32,

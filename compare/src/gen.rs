@@ -11,7 +11,7 @@ impl Random {
         Random(seed.wrapping_mul(0x9E37_79B9_7F4A_7C15) ^ 0xD1B5_4A32_D192_ED03)
     }
 
-    fn next(&mut self) -> u64 {
+    pub fn next(&mut self) -> u64 {
         self.0 = self.0.wrapping_add(0x9E37_79B9_7F4A_7C15);
         let mut z = self.0;
         z = (z ^ (z >> 30)).wrapping_mul(0xBF58_476D_1CE4_E5B9);
@@ -154,7 +154,7 @@ impl Gen {
         }
     }
 
-    fn part(&mut self) -> Part {
+    pub fn part(&mut self) -> Part {
         Part { repeat: self.repeat(), event: self.event() }
     }
 
@@ -208,13 +208,15 @@ impl Gen {
         // An action or a next mode leaves the place, and what lies behind it is not met.
         if self.random.chance(if step.fallthrough.is_some() { 70 } else { 10 }) {
             (step.actions, step.next) = (vec![], None);
+        } else if self.random.chance(5) {
+            (step.actions, step.next) = (vec![], Some(self.mode()));
         }
         step
     }
 
     // ---- tables
 
-    fn class_entry(&mut self) -> ClassEntry {
+    pub fn class_entry(&mut self) -> ClassEntry {
         let (a, b) = (self.key(), self.key());
         let (low, high) = if self.random.chance(30) { (48, 57) } else { (a.min(b), a.max(b)) };
         ClassEntry { class: self.class(), low, high }
@@ -228,7 +230,7 @@ impl Gen {
         }
     }
 
-    fn rule(&mut self) -> Rule {
+    pub fn rule(&mut self) -> Rule {
         let (a, b) = (self.action(), self.action());
         let sequence = if self.random.chance(90) { self.random.small(2) } else { self.random.small(8) };
         let status = if self.random.chance(40) { 4 } else { self.random.small(5) };
@@ -269,7 +271,8 @@ impl Gen {
             0..=19 => self.random.small(6),
             20..=79 => 40,
             80..=91 => 300,
-            _ => 1000,
+            92..=98 => 1000,
+            _ => 65_535,
         }
     }
 
@@ -293,7 +296,7 @@ impl Gen {
         }
     }
 
-    fn calls(&mut self) -> Vec<Call> {
+    pub fn calls(&mut self) -> Vec<Call> {
         match self.random.below(100) {
             0..=11 => vec![self.binding()],
             12..=68 => vec![self.press()],

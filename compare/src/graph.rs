@@ -6,6 +6,7 @@ use std::collections::HashMap;
 use std::sync::OnceLock;
 
 use crate::calls::{Event, Part, Repeat, Step, Tables};
+use crate::met::{met, met_if, met_part, Met, Place};
 
 const ROOTS: usize = 16;
 
@@ -109,12 +110,14 @@ impl Graph {
     }
 
     fn add_edge(&mut self, from: NodeId, to: NodeId, ev: Event) -> Outcome<()> {
-        if self.get_edge(from, ev).is_none() {
+        let old = self.get_edge(from, ev);
+        if old.is_none() {
             if self.edge_count == limits().1 {
                 return Err(3);
             }
             self.edge_count += 1;
         }
+        met_if(old.is_some_and(|end| end != to), Met::EdgeReplaced);
         self.edges.entry(from).or_default().insert(ev, to);
         Ok(())
     }
@@ -159,6 +162,7 @@ impl Adding<'_> {
     fn add_simple_step(&mut self, ev: Event, step: Option<&Step>) -> Outcome<NodeId> {
         let id = self.graph.upsert_node(self.mode, self.prev, ev, step.into())?;
         if self.fallthrough {
+            met(Met::FallBehindMin);
             self.graph.add_edge(self.prev, id, Event::Fallthrough)?;
             self.fallthrough = false;
         }
@@ -187,9 +191,11 @@ impl Adding<'_> {
     fn add_intermediate(&mut self, part: &Part) -> Outcome<()> {
         let ev = part.event;
         if let Some(end) = self.graph.get_edge(self.prev, ev) {
+            met(Met::EdgeFollowed);
             self.prev = end;
             return Ok(());
         }
+        met_part(Place::OnTheWay, part.repeat);
         match part.repeat {
             Repeat::Once => self.prev = self.add_simple_step(ev, None)?,
             Repeat::Min(n) => {
@@ -217,6 +223,7 @@ impl Adding<'_> {
 
     fn prefix_last(&mut self, last: &Part, single: bool, step: Option<&Step>) -> Outcome<()> {
         let (root, ev) = (self.mode as NodeId, last.event);
+        met_part(if single { Place::PrefixAlone } else { Place::PrefixLast }, last.repeat);
         match last.repeat {
             Repeat::Once if step.is_none() => self.graph.add_edge(self.prev, root, ev),
             Repeat::Once => {
@@ -254,6 +261,7 @@ impl Adding<'_> {
     /// The node that the mapping's step stands in.
     fn mapping_last(&mut self, last: &Part, step: &Step) -> Outcome<NodeId> {
         let ev = last.event;
+        met_part(Place::MappingLast, last.repeat);
         match last.repeat {
             Repeat::Once => self.add_simple_step(ev, Some(step)),
             Repeat::Min(n) => {
@@ -292,7 +300,9 @@ impl Graph {
         for part in prefix {
             adding.add_intermediate(part)?;
         }
-        adding.prefix_last(last, prefix.is_empty(), step)
+        adding.prefix_last(last, prefix.is_empty(), step)?;
+        self.note_full();
+        Ok(())
     }
 
     pub fn add_mapping(&mut self, mode: u16, path: &[Part], step: &Step) -> Outcome<()> {
@@ -302,9 +312,17 @@ impl Graph {
             adding.add_intermediate(part)?;
         }
         let end = adding.mapping_last(last, step)?;
-        match step.fallthrough {
-            Some(mode) => self.add_edge(end, mode as NodeId, Event::Fallthrough),
-            None => Ok(()),
+        if let Some(mode) = step.fallthrough {
+            self.add_edge(end, mode as NodeId, Event::Fallthrough)?;
         }
+        self.note_full();
+        Ok(())
+    }
+
+    /// For the counts alone.
+    fn note_full(&self) {
+        let (nodes, edges) = self.size();
+        met_if(nodes == limits().0, Met::NodesFull);
+        met_if(edges == limits().1, Met::EdgesFull);
     }
 }

@@ -2,26 +2,43 @@
 //! says how it is built and used.
 
 mod antt;
+mod calllist;
 mod calls;
 mod cases;
+mod contest;
+mod differences;
 mod edges;
 mod gen;
 mod graph;
 mod mapfile;
+mod met;
 mod model;
 mod oracle;
+mod ours;
 mod play;
+mod record;
+mod scenes;
+mod shrink;
 
 use std::io::Read;
+use std::path::Path;
 
 use antt::{Row, Sort};
+use contest::Contest;
 use gen::Kind;
+
+/// How many lists, and how many runs, are recorded.
+const RECORDED: usize = 300;
 
 const USAGE: &str = "compare edges                        E1 to E10 of document 01 on model and original
 compare play KIND SEED               a list of calls with its answers
 compare many SORT FIRST COUNT        COUNT seeds from FIRST on: model against original, and how often what occurred
 compare rows SORT FIRST COUNT CRATE  the same as an antt file of CRATE, with a theorem for each seed
+compare differences                  the inputs of docs/DIFFERENCES.md on model and original
 compare keyplay                      what `keyplay` prints for standard input
+compare run FOLDER SECONDS FIRST     random lists and runs from seed FIRST on, against the programs in FOLDER and the archive
+compare seed FOLDER SEED             one of these again
+compare record calls|runs FOLDER     the recorded lists or runs: writes stdin and stdout there
 KIND is usual, plain, long or big. SORT is a kind; or runs, or keyplay; for rows also reader, which is plain lists on the
 list reader, and graphs, which is nodes and edges after the bindings of usual lists";
 
@@ -33,9 +50,29 @@ fn main() {
         ["play", kind, seed] => show(kind_of(kind), number(seed)),
         ["many", sort, first, count] => many(sort, number(first), number(count)),
         ["rows", sort, first, count, name] => rows(sort, number(first), number(count), name),
+        ["differences"] => ended(differences::differences()),
         ["keyplay"] => keyplay(),
+        ["run", folder, seconds, first] => ended(Contest::new(Path::new(folder)).run(number(seconds), number(first))),
+        ["record", "calls", folder] => write(record::lists(RECORDED), Path::new(folder)),
+        ["record", "runs", folder] => write(record::runs(RECORDED), Path::new(folder)),
+        ["seed", folder, seed] => ended(Contest::new(Path::new(folder)).turn(number(seed))),
         _ => stop(USAGE),
     }
+}
+
+fn write(recorded: Result<record::Recorded, String>, folder: &Path) {
+    let recorded = recorded.unwrap_or_else(|e| stop(&e));
+    let to = |name: &str, bytes: &[u8]| {
+        std::fs::write(folder.join(name), bytes).unwrap_or_else(|e| stop(&e.to_string()));
+    };
+    to("stdin", &recorded.stdin);
+    to("stdout", recorded.stdout.as_bytes());
+    recorded.print();
+    println!("{RECORDED} inputs, {} bytes, into {}", recorded.stdin.len(), folder.display());
+}
+
+fn ended(without_difference: bool) {
+    std::process::exit(if without_difference { 0 } else { 1 })
 }
 
 fn stop(message: &str) -> ! {
@@ -104,37 +141,32 @@ fn many(sort: &str, first: u64, count: u64) {
 }
 
 fn many_lists(kind: Kind, seeds: std::ops::Range<u64>) {
-    let mut counts = play::Counts::default();
-    let (mut nodes, mut edges, mut stacked) = (0, 0, 0);
+    let (mut nodes, mut edges) = (0, 0);
     for seed in seeds {
         let p = played(seed, kind);
-        counts.add(&p);
         nodes = nodes.max(p.size.0);
         edges = edges.max(p.size.1);
-        stacked = stacked.max(p.tally.most_stacked);
     }
-    counts.print();
-    println!("at most {nodes} nodes beside the roots, {edges} edges, {stacked} keys to try");
+    met::print();
+    println!("at most {nodes} nodes beside the roots, {edges} edges");
 }
 
 fn many_runs(seeds: std::ops::Range<u64>) {
-    let mut counts = play::Counts::default();
     for seed in seeds {
         let (_, code, _) = ran(seed);
         let what = if code % 32 == 0 { format!("accepted, {} bytes", code / 32) } else { format!("refused {code}") };
-        counts.note(what, 1);
+        met::met_named(format!("run: {what}"));
     }
-    counts.print();
+    met::print();
 }
 
 fn many_plays(seeds: std::ops::Range<u64>) {
-    let mut counts = play::Counts::default();
     for seed in seeds {
         let text = agreed(seed, mapfile::keyplay(&cases::input_of(seed)));
         let first = text.lines().next().unwrap_or_default();
-        counts.note(format!("{first} ({} lines)", text.lines().count()), 1);
+        met::met_named(format!("{first} ({} lines)", text.lines().count()));
     }
-    counts.print();
+    met::print();
 }
 
 fn ran(seed: u64) -> (cases::Case, u32, Vec<u8>) {

@@ -186,6 +186,15 @@ fn read_map(map: &[u8]) -> Read<Both> {
     }
 }
 
+/// Tables and bindings of a map file that can be read whole.
+pub fn bindings_of(map: &[u8]) -> Option<(Tables, Vec<Call>)> {
+    let mut reader = Reader::new(map);
+    let tables = reader.tables().ok()?;
+    let count = reader.number().ok()?;
+    let bindings = (0..count).map(|_| reader.binding().ok()).collect::<Option<Vec<Call>>>()?;
+    reader.at_end().then_some((tables, bindings))
+}
+
 fn read_keys(bytes: &[u8]) -> Read<Vec<u16>> {
     let mut reader = Reader::new(bytes);
     let mut keys = vec![];
@@ -236,17 +245,30 @@ pub fn exported(map: &[u8], keys: &[u8], budget: u16, lent: &[u8]) -> Result<(u3
     }
 }
 
+/// Map and keys of an input of `keyplay`: the map's length, the map, then keys.
+fn split(input: &[u8]) -> Read<(&[u8], &[u8])> {
+    let mut reader = Reader::new(input);
+    let length = reader.number()? as usize;
+    reader.rest().split_at_checked(length).ok_or(Stop::Refused(9))
+}
+
+/// The same, where the input has both.
+pub fn map_and_keys(input: &[u8]) -> Option<(&[u8], &[u8])> {
+    split(input).ok()
+}
+
+pub fn input_with(map: &[u8], keys: &[u8]) -> Vec<u8> {
+    let mut input = vec![];
+    put_number(map.len() as u32, &mut input);
+    [&input[..], map, keys].concat()
+}
+
 fn play_input(input: &[u8]) -> Read<Vec<Pair>> {
     if input.len() > 65_536 {
         return refused(9);
     }
-    let mut reader = Reader::new(input);
-    let length = reader.number()? as usize;
-    let rest = reader.rest();
-    if length > rest.len() {
-        return refused(9);
-    }
-    run(&rest[..length], &rest[length..], 1000, 65_536)
+    let (map, keys) = split(input)?;
+    run(map, keys, 1000, 65_536)
 }
 
 /// What the program `keyplay` prints.

@@ -4,8 +4,9 @@
 
 use std::collections::{HashMap, VecDeque};
 
-use crate::calls::{binding_valid, decompose, tables_valid, Answer, Call, Context, Pair, Step, Tables};
+use crate::calls::{binding_valid, decompose, tables_valid, Answer, Call, Context, Event, Pair, Step, Tables};
 use crate::graph::{Follow, Graph, NodeAction, NodeId, Outcome};
+use crate::met::{met, met_if, met_which, stacked, Met};
 
 const MOST_QUEUED: usize = 256;
 const MOST_TRACKED: usize = 64;
@@ -18,20 +19,34 @@ const MOST_STACKED: usize = 130;
 struct Tracker {
     sequence: Vec<Pair>,
     sequence_break: bool,
+    /// For the counts alone: whether an override has changed its pairs.
+    overridden: bool,
 }
 
 impl Tracker {
     fn push(&mut self, status: u16, pair: Pair) -> Outcome<()> {
         match status {
-            0 => (self.sequence, self.sequence_break) = (vec![pair], true),
-            1 => self.sequence_break = true,
-            3 => (self.sequence, self.sequence_break) = (vec![pair], false),
-            4 if self.sequence_break => (self.sequence, self.sequence_break) = (vec![pair], false),
+            0 => self.starts(pair, true, Met::Atom),
+            1 => {
+                met(Met::Break);
+                self.sequence_break = true;
+            },
+            3 => self.starts(pair, false, Met::Restart),
+            4 if self.sequence_break => self.starts(pair, false, Met::TrackAnew),
             4 if self.sequence.len() == MOST_TRACKED => return Err(6),
-            4 => self.sequence.push(pair),
-            _ => {},
+            4 => {
+                met(Met::TrackOn);
+                self.sequence.push(pair);
+                met_if(self.sequence.len() == MOST_TRACKED, Met::TrackedFull);
+            },
+            _ => met(Met::Ignore),
         }
         Ok(())
+    }
+
+    fn starts(&mut self, pair: Pair, sequence_break: bool, by: Met) {
+        met(by);
+        *self = Tracker { sequence: vec![pair], sequence_break, overridden: false };
     }
 }
 
@@ -44,20 +59,6 @@ enum InputResult {
     RetryAfter(Step),
     NeedMore,
     Unmapped,
-}
-
-/// How often each way out of `input` was taken, for the report of a comparison.
-#[derive(Clone, Copy, Debug, Default)]
-pub struct Tally {
-    pub clear_trail: u64,
-    pub consumed: u64,
-    pub step: u64,
-    pub retry_after: u64,
-    pub need_more: u64,
-    pub unmapped: u64,
-    pub decomposed: u64,
-    pub again: u64,
-    pub most_stacked: usize,
 }
 
 struct Rounds {
@@ -85,7 +86,6 @@ pub struct Model {
     queue: VecDeque<Pair>,
     trail: Vec<u16>,
     sequences: HashMap<u16, Tracker>,
-    pub tally: Tally,
 }
 
 impl Model {
@@ -99,7 +99,6 @@ impl Model {
             queue: VecDeque::new(),
             trail: vec![],
             sequences: HashMap::new(),
-            tally: Tally::default(),
         }
     }
 
@@ -139,6 +138,7 @@ impl Model {
             return Err(5);
         }
         self.queue.push_back(pair);
+        met_if(self.queue.len() == MOST_QUEUED, Met::QueueFull);
         Ok(())
     }
 
@@ -151,13 +151,20 @@ impl Model {
     }
 
     fn goto_mode(&mut self, mode: u16) -> Outcome<()> {
+        met_if(self.mode == mode, Met::EnterSame);
         self.curr = mode as NodeId;
         self.mode = mode;
-        self.push_all(self.tables.mode(mode).enter)
+        let actions = self.tables.mode(mode).enter;
+        met_if(!actions.is_empty(), Met::EnterActions);
+        self.push_all(actions)
     }
 
     fn unmapped(&mut self) -> Outcome<()> {
-        let entry = self.tables.mode(self.graph.get_node(self.curr).mode);
+        let mode = self.graph.get_node(self.curr).mode;
+        let entry = self.tables.mode(mode);
+        met_if(mode != self.mode, Met::UnmappedElsewhere);
+        met_if(entry.next.is_some(), Met::UnmappedNext);
+        met_which(entry.unmapped.is_empty(), Met::UnmappedDefault, Met::UnmappedList);
         let actions = if entry.unmapped.is_empty() { vec![0] } else { entry.unmapped };
         self.push_all(actions)?;
         self.goto_mode(entry.next.unwrap_or(self.mode))
@@ -165,15 +172,21 @@ impl Model {
 
     fn step(&mut self, step: &Step) -> Outcome<()> {
         if let Some(mark) = step.mark {
+            met(Met::StepMark);
             self.context.mark = mark;
         }
         match (step.actions.len(), step.next) {
-            (0, None) => Ok(()),
+            (0, None) => {
+                met(Met::StepNothing);
+                Ok(())
+            },
             (0, Some(mode)) => {
+                met(Met::StepNext);
                 self.push_all(vec![0])?;
                 self.goto_mode(mode)
             },
             (_, next) => {
+                met_which(next.is_some(), Met::StepBoth, Met::StepActions);
                 self.push_all(step.actions.clone())?;
                 self.goto_mode(next.unwrap_or(self.mode))
             },
@@ -187,31 +200,62 @@ impl Model {
             rounds.next()?;
             match self.graph.follow_edge(&self.tables, self.curr, key) {
                 Follow::Successor(event, end) => {
+                    self.note_event(event, key);
                     self.context.event(event, key);
                     self.curr = end;
                     return Ok(self.arrived());
                 },
-                Follow::NoSuccessor => return Ok(InputResult::Unmapped),
+                Follow::NoSuccessor => {
+                    met(Met::Stuck);
+                    return Ok(InputResult::Unmapped);
+                },
                 Follow::Fallthrough(end) => {
+                    met_if(self.graph.get_node(end).mode != self.graph.get_node(self.curr).mode, Met::FallsAcross);
                     self.curr = end;
                     match &self.graph.get_node(end).action {
-                        NodeAction::Empty => self.tally.again += 1,
-                        NodeAction::Root => return Ok(InputResult::ClearTrail),
-                        NodeAction::Step(s) => return Ok(InputResult::RetryAfter(s.clone())),
+                        NodeAction::Empty => met(Met::FallsToEmpty),
+                        NodeAction::Root => {
+                            met(Met::FallsToRoot);
+                            return Ok(InputResult::ClearTrail);
+                        },
+                        NodeAction::Step(s) => {
+                            met_which(s.flag, Met::FallsToFlagged, Met::FallsToStep);
+                            return Ok(InputResult::RetryAfter(s.clone()));
+                        },
                     }
                 },
             }
         }
     }
 
-    fn arrived(&self) -> InputResult {
-        match &self.graph.get_node(self.curr).action {
-            NodeAction::Step(s) if !s.flag => InputResult::Step(s.clone()),
-            NodeAction::Step(_) if self.graph.has_edges(self.curr) => InputResult::NeedMore,
-            NodeAction::Step(_) => InputResult::Unmapped,
-            NodeAction::Empty => InputResult::NeedMore,
-            NodeAction::Root => InputResult::Consumed,
+    /// For the counts alone.
+    fn note_event(&self, event: Event, key: u16) {
+        match event {
+            Event::Key(_) => met(Met::ByKey),
+            Event::Class(c) => {
+                met_which(self.tables.memberships(key).first() == Some(&c), Met::ByFirstClass, Met::ByLaterClass);
+                let digit = c == 0 && (48..=57).contains(&key);
+                met_if(digit, Met::Digit);
+                met_if(digit && self.context.count == 65_535, Met::DigitFull);
+            },
+            Event::Any => {
+                met(Met::ByAny);
+                met(Met::AnyMark);
+            },
+            Event::Fallthrough => unreachable!("no key takes a Fallthrough edge as its own"),
         }
+    }
+
+    fn arrived(&self) -> InputResult {
+        let (place, result) = match &self.graph.get_node(self.curr).action {
+            NodeAction::Step(s) if !s.flag => (Met::AtStep, InputResult::Step(s.clone())),
+            NodeAction::Step(_) if self.graph.has_edges(self.curr) => (Met::AtFlaggedOpen, InputResult::NeedMore),
+            NodeAction::Step(_) => (Met::AtFlaggedEnd, InputResult::Unmapped),
+            NodeAction::Empty => (Met::AtEmpty, InputResult::NeedMore),
+            NodeAction::Root => (Met::AtRoot, InputResult::Consumed),
+        };
+        met(place);
+        result
     }
 
     fn input_key(&mut self, key: u16, rounds: &mut Rounds) -> Outcome<()> {
@@ -225,9 +269,7 @@ impl Model {
     /// The inner loop of the original's `input_key`: one key until it is consumed, needs more or is unmapped.
     fn try_key(&mut self, mut key: u16, stack: &mut Vec<u16>, rounds: &mut Rounds) -> Outcome<()> {
         loop {
-            let result = self.input(key, rounds)?;
-            self.count(&result);
-            match result {
+            match self.input(key, rounds)? {
                 InputResult::Consumed => {
                     self.trail.clear();
                     return Ok(());
@@ -237,16 +279,18 @@ impl Model {
                         return Err(7);
                     }
                     self.trail.push(key);
+                    met_if(self.trail.len() == MOST_TRAIL, Met::TrailFull);
                     return Ok(());
                 },
                 InputResult::Unmapped => {
                     if let Some((first, rest)) = decompose(key) {
-                        self.tally.decomposed += 1;
+                        met_which(self.trail.is_empty(), Met::Decomposed, Met::DecomposedHalf);
                         key = first;
                         stack.push(rest);
                         self.stacked(stack.len() + 1);
                         continue;
                     }
+                    met_which(self.trail.is_empty(), Met::GivenUp, Met::GivenUpHalf);
                     let mut trail = std::mem::take(&mut self.trail);
                     trail.push(key);
                     self.unmapped()?;
@@ -270,20 +314,7 @@ impl Model {
     /// Document 01: the stack never exceeds 130 keys, the one at work included.
     fn stacked(&mut self, keys: usize) {
         assert!(keys <= MOST_STACKED, "a stack of {keys} keys");
-        self.tally.most_stacked = self.tally.most_stacked.max(keys);
-    }
-
-    fn count(&mut self, result: &InputResult) {
-        let t = &mut self.tally;
-        let place = match result {
-            InputResult::ClearTrail => &mut t.clear_trail,
-            InputResult::Consumed => &mut t.consumed,
-            InputResult::Step(_) => &mut t.step,
-            InputResult::RetryAfter(_) => &mut t.retry_after,
-            InputResult::NeedMore => &mut t.need_more,
-            InputResult::Unmapped => &mut t.unmapped,
-        };
-        *place += 1;
+        stacked(keys);
     }
 
     // ---- repeat and reset
@@ -293,19 +324,24 @@ impl Model {
             return Err(1);
         }
         let tracker = self.sequences.entry(sequence).or_default();
+        note_repeat(tracker, over.is_some());
         for pair in &mut tracker.sequence {
             pair.context = over.map_or(pair.context, |o| pair.context.merge(o));
         }
+        tracker.overridden |= over.is_some();
         if tracker.sequence.len() + self.queue.len() > MOST_QUEUED {
             return Err(5);
         }
         for pair in tracker.sequence.iter().rev() {
             self.queue.push_front(*pair);
         }
+        met_if(!tracker.sequence.is_empty() && self.queue.len() == MOST_QUEUED, Met::QueueFullRepeat);
         Ok(())
     }
 
     fn reset_mode(&mut self) -> Outcome<()> {
+        met_if(!self.trail.is_empty(), Met::ResetTrail);
+        met_if(self.sequences.values().any(|t| !t.sequence.is_empty()), Met::ResetTracked);
         for tracker in self.sequences.values_mut() {
             tracker.sequence_break = true;
         }
@@ -314,7 +350,7 @@ impl Model {
 
     // ---- calls
 
-    /// An accepted call changes the machine; a refused one leaves it as it was, but for the tally.
+    /// An accepted call changes the machine; a refused one leaves it as it was.
     pub fn call(&mut self, call: &Call) -> Answer {
         match call {
             Call::Key { key, budget } => self.key(*key, *budget),
@@ -338,7 +374,7 @@ impl Model {
         match call {
             Call::Open(t) if !tables_valid(t) => Err(1),
             Call::Open(t) => {
-                *self = Model { tally: self.tally, ..Model::fresh(t.clone()) };
+                *self = Model::fresh(t.clone());
                 Ok(())
             },
             Call::Map(mode, path, step) if !binding_valid(*mode, path, Some(step)) => Err(1),
@@ -355,8 +391,19 @@ impl Model {
         let before = self.clone();
         let outcome = work(self);
         if outcome.is_err() {
-            *self = Model { tally: self.tally, ..before };
+            *self = before;
         }
         outcome
     }
+}
+
+/// For the counts alone.
+fn note_repeat(tracker: &Tracker, over: bool) {
+    met(match (tracker.sequence.is_empty(), tracker.overridden, over) {
+        (true, _, _) => Met::RepeatEmpty,
+        (_, false, false) => Met::RepeatPlain,
+        (_, false, true) => Met::RepeatOver,
+        (_, true, false) => Met::RepeatOverStored,
+        (_, true, true) => Met::RepeatOverTwice,
+    });
 }

@@ -226,6 +226,22 @@ pub struct Oracle {
     done: Vec<Call>,
 }
 
+/// What came of a call. Endless is a key that makes more rounds than any budget has.
+pub enum Attempt {
+    Done(Option<Pair>),
+    Panicked,
+    Endless,
+}
+
+/// Work in which a panic prints nothing.
+fn quietly<T>(work: impl FnOnce() -> T) -> T {
+    let loud = take_hook();
+    set_hook(Box::new(|_| {}));
+    let done = work();
+    set_hook(loud);
+    done
+}
+
 impl Oracle {
     pub fn fresh() -> Self {
         Oracle::with(Tables::default())
@@ -241,14 +257,27 @@ impl Oracle {
     }
 
     /// A call that document 01 accepts. The pair is what a pop gave.
-    pub fn accept(&mut self, call: &Call) -> Option<Pair> {
+    pub fn accept(&mut self, call: &Call) -> Result<Option<Pair>, String> {
         if let Call::Open(tables) = call {
             *self = Oracle::with(tables.clone());
-            return None;
+            return Ok(None);
         }
         self.done.push(call.clone());
         catch_unwind(AssertUnwindSafe(|| self.perform(call)))
-            .unwrap_or_else(|_| panic!("the original panics or makes more than {MOST_ROUNDS} rounds at {call:?}"))
+            .map_err(|_| format!("the original panics or makes more than {MOST_ROUNDS} rounds at {call:?}"))
+    }
+
+    /// A call that document 01 may refuse, on the original as it stands: what came of it stays.
+    pub fn attempt(&mut self, call: &Call) -> Attempt {
+        if let Call::Open(tables) = call {
+            *self = Oracle::with(tables.clone());
+            return Attempt::Done(None);
+        }
+        match quietly(|| catch_unwind(AssertUnwindSafe(|| self.perform(call)))) {
+            Ok(pair) => Attempt::Done(pair),
+            Err(thrown) if thrown.is::<OverBudget>() => Attempt::Endless,
+            Err(_) => Attempt::Panicked,
+        }
     }
 
     /// The rounds that the last key made.
@@ -267,10 +296,7 @@ impl Oracle {
     /// Whether the original panics at a call, as its `assert_eq!` on the mode does. That is an answer here and no news, so
     /// nothing is printed.
     pub fn panics_at(&mut self, call: &Call) -> bool {
-        let loud = take_hook();
-        set_hook(Box::new(|_| {}));
-        let panicked = catch_unwind(AssertUnwindSafe(|| self.perform(call))).is_err();
-        set_hook(loud);
+        let panicked = quietly(|| catch_unwind(AssertUnwindSafe(|| self.perform(call)))).is_err();
         self.again();
         panicked
     }

@@ -1,11 +1,10 @@
 //! One list of calls on the model and on the original at once. The model gives the refusals; every call that it accepts
 //! goes to the original too, and both must then show the same and have made the same rounds.
 
-use std::collections::BTreeMap;
-
 use crate::calls::{Answer, Call, Context, Pair};
 use crate::graph::Graph;
-use crate::model::{Model, Tally};
+use crate::met::{expect_named, met_named};
+use crate::model::Model;
 use crate::oracle::Oracle;
 
 /// What can be seen after a call.
@@ -31,6 +30,7 @@ impl Both {
     /// The answer and what is seen, or how model and original differ.
     pub fn call(&mut self, call: &Call) -> Result<Seen, String> {
         let answer = self.model.call(call);
+        met_named(format!("{}: {}", name_of(call), answer_kind(answer)));
         self.follow(call, answer)?;
         let (mode, context) = (self.model.mode(), self.model.context());
         if (mode, context) != (self.original.mode(), self.original.context()) {
@@ -65,7 +65,7 @@ impl Both {
     }
 
     fn follow_accepted(&mut self, call: &Call, answer: Answer) -> Result<(), String> {
-        let pair = self.original.accept(call);
+        let pair = self.original.accept(call)?;
         if matches!(call, Call::Pop) && pair != pair_of(answer) {
             return Err(format!("the original pops {pair:?}, the model {answer}"));
         }
@@ -89,14 +89,13 @@ fn pair_of(answer: Answer) -> Option<Pair> {
 pub struct Played {
     pub calls: Vec<Call>,
     pub seen: Vec<Seen>,
-    pub tally: Tally,
     /// Nodes beside the roots, and edges.
     pub size: (usize, usize),
 }
 
 pub fn play(list: &[Call]) -> Result<Played, String> {
     let mut both = Both::fresh();
-    let mut played = Played { calls: vec![], seen: vec![], tally: Tally::default(), size: (0, 0) };
+    let mut played = Played { calls: vec![], seen: vec![], size: (0, 0) };
     for call in list {
         played.add(&mut both, call.clone())?;
     }
@@ -107,7 +106,6 @@ pub fn play(list: &[Call]) -> Result<Played, String> {
             played.empty_queue(&mut both)?;
         }
     }
-    played.tally = both.model.tally;
     played.size = both.model.graph().size();
     Ok(played)
 }
@@ -138,39 +136,19 @@ impl Played {
     }
 }
 
-/// How often each kind of answer was given, by the kind of call.
-#[derive(Default)]
-pub struct Counts(BTreeMap<String, u64>);
-
-impl Counts {
-    pub fn add(&mut self, played: &Played) {
-        for (call, seen) in played.calls.iter().zip(&played.seen) {
-            self.note(format!("{}: {}", name_of(call), answer_kind(seen.answer)), 1);
-        }
-        let t = played.tally;
-        let ways = [
-            ("consumed", t.consumed),
-            ("need more", t.need_more),
-            ("unmapped", t.unmapped),
-            ("unmapped, decomposed", t.decomposed),
-            ("clear trail", t.clear_trail),
-            ("step", t.step),
-            ("retry after", t.retry_after),
-            ("fallthrough to an empty node", t.again),
-        ];
-        for (name, times) in ways {
-            self.note(format!("loop: {name}"), times);
-        }
-    }
-
-    pub fn note(&mut self, what: String, times: u64) {
-        *self.0.entry(what).or_default() += times;
-    }
-
-    pub fn print(&self) {
-        for (what, times) in &self.0 {
-            println!("{times:>10}  {what}");
-        }
+/// The answers that a report shows even when they are never met.
+pub fn expect_answers() {
+    let refusals: [(&str, &[u16]); 6] = [
+        ("open", &[1]),
+        ("map", &[1, 2, 3, 4]),
+        ("prefix", &[1, 2, 3]),
+        ("key", &[5, 6, 7, 8]),
+        ("repeat", &[1, 5]),
+        ("reset", &[5, 6]),
+    ];
+    for (call, numbers) in refusals {
+        expect_named(format!("{call}: accepted"));
+        numbers.iter().for_each(|n| expect_named(format!("{call}: refused {n}")));
     }
 }
 

@@ -1,4 +1,6 @@
 // What the benchmark measures, in a form that C and Rust can call. Nothing of the product uses this crate.
+pub mod keys;
+
 use keygraph::event::EdgeEvent;
 use keygraph::event::EdgeRepeat;
 use keygraph::follow;
@@ -29,7 +31,7 @@ pub extern "C" fn bench_follow<'a>(
 }
 
 // A path of two keys.
-fn two_keys(first: u16, second: u16) -> EdgePath {
+pub(crate) fn two_keys(first: u16, second: u16) -> EdgePath {
     let last = EdgePathPart {
         repeat: EdgeRepeat::Once,
         event: EdgeEvent::Key(second),
@@ -46,7 +48,7 @@ fn two_keys(first: u16, second: u16) -> EdgePath {
 }
 
 // A step of one action.
-fn one_action(a: u16) -> Step {
+pub(crate) fn one_action(a: u16) -> Step {
     Step {
         unmapped: false,
         actions: [a; 4],
@@ -61,15 +63,13 @@ fn one_action(a: u16) -> Step {
 #[no_mangle]
 pub extern "C" fn bench_add_in_place(n: u16) -> u16 {
     let g = Graph::fresh();
-    let mut heads = g.heads;
-    let mut acts = g.acts;
-    let mut edges = g.edges;
+    let mut words = g.words;
     let mut counts = g.counts;
     let mut i = 0u16;
     while i < n {
         let path = two_keys(i, 7);
         let step = one_action(i);
-        let r = mapping::add_mapping_in(&mut heads, &mut acts, &mut edges, counts, 0, path, step);
+        let r = mapping::add_mapping_in(&mut words, counts, 0, path, step);
         let next = r.counts;
         counts = next;
         i = i + 1;

@@ -1,73 +1,9 @@
-// Plays many inputs framed in one standard input. A frame is two numbers, whose sum is a length, and then so many bytes,
-// which are one input of `keyplay`. A line `--` stands before each answer; a frame that is not whole ends the play.
+// Plays many inputs of `keyplay`, framed in one standard input.
+use framed::Player;
 use libc::STDIN_FILENO;
-use libc::STDOUT_FILENO;
-use mapfile::number;
-use mapfile::number::Read;
-ghost use Prim.Native.Nat.{_<_};
-ghost use lib.ListN.{length};
-ghost use Rattle.keycases.specs.Frames.{FrameFits};
-
-// Where an input stands.
-enum Frame {
-    Whole { start: usize, end: usize },
-    Broken,
-}
-
-// The bytes after the two numbers.
-fn frame_of(s: &[u8], at: usize, start: usize, a: u16, b: u16) -> Frame
-    requires { ⌜ at < start ⌝ }
-    ensures { λ r. ⌜ FrameFits at (length (now (s .entry))) r ⌝ }
-{
-    let size = (a as usize) + (b as usize);
-    if s.len() < start {
-        return Frame::Broken;
-    }
-    if s.len() - start < size {
-        return Frame::Broken;
-    }
-    Frame::Whole {
-        start: start,
-        end: start + size,
-    }
-}
-
-fn frame_at(s: &[u8], at: usize) -> Frame
-    ensures { λ r. ⌜ FrameFits at (length (now (s .entry))) r ⌝ }
-{
-    let first = number::read_number(s, at);
-    match first {
-        Read::Bad => return Frame::Broken,
-        Read::Number { value: a, next } => {
-            let second = number::read_number(s, next);
-            match second {
-                Read::Bad => return Frame::Broken,
-                Read::Number {
-                    value: b,
-                    next: start,
-                } => return frame_of(s, at, start, a, b),
-            }
-        }
-    }
-}
-
-fn cases(s: &[u8]) {
-    let mut at = 0usize;
-    while at < s.len() {
-        let f = frame_at(s, at);
-        match f {
-            Frame::Broken => return,
-            Frame::Whole { start, end } => {
-                io::write_all(STDOUT_FILENO, b"--\n");
-                playback::answer(&s[start..end]);
-                at = end;
-            }
-        }
-    }
-}
 
 fn main() {
     let mut input = [0u8; 200000];
     let n = io::read_full(STDIN_FILENO, &mut input);
-    cases(&input[..n]);
+    framed::cases(&input[..n], Player::Keyplay);
 }

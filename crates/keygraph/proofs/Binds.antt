@@ -10,7 +10,7 @@ refused zero a h = absurd (h refl)
 refused (suc n) a h = refl
 
 module _ {A B C : Type 0} where
-  bind-assoc : (r : Result A) (f : A → Result B) (g : B → Result C) → ((r >>= f) >>= g) ≡ r >>= (λ a. f a >>= g)
+  pub bind-assoc : (r : Result A) (f : A → Result B) (g : B → Result C) → ((r >>= f) >>= g) ≡ r >>= (λ a. f a >>= g)
   bind-assoc (accept a) f g = refl
   bind-assoc (refuse n) f g = refl
 
@@ -29,6 +29,14 @@ module _ {A B C : Type 0} where
       go2 : (x : Result A) → ((x >>= f) >>= g) ≡ x >>= (λ a. f a >>= g)
       go2 (accept a) = refl
       go2 (refuse m) = refl
+
+-- the same step in other words
+pub leads-as : {A B : Type 0} {x : Result A} {y : Result B} (f f′ : A → Result B) → ((a : A) → f a ≡ f′ a) → Leads x f y → Leads x f′ y
+leads-as {A} {B} {x} {y} f f′ e h = record { is = h .is ∙ go x }
+  where
+    go : (x : Result A) → (x >>= f) ≡ x >>= f′
+    go (accept a) = e a
+    go (refuse n) = refl
 
 pub leads-same : {A : Type 0} (x : Result A) → Leads x (λ a. accept a) x
 leads-same (accept a) = record { is = refl }

@@ -1,22 +1,30 @@
 -- Cursors: what one call comes to, in the words of the rules, and the loops of repeats.
-use Prim.Native.Nat.{ℕ, zero, suc}
+use Prim.Native.Nat.{ℕ, zero, suc, _<_, _≤_, min}
 use mathlib.Core.Path.{_≡_, refl, sym, ap, _∙_}
-use mathlib.Core.Bool.{Bool, true, false}
-use mathlib.Core.List.{List, [], _∷_}
+use mathlib.Core.Bool.{Bool, true, false, _&&_}
+use mathlib.Core.List.{List, [], _∷_, _++_, map}
+use native.Mathlib.Omega.{arith}
+use lib.Dec.{eqb}
+use lib.ListN.{length, take, getD, length-map, length-take}
+use lib.Seq.{take-suc}
+use borrow.Author.Tests.{ne-eqb}
 use mathlib.Core.Option.{Option, none, some}
 use Rattle.rules.specs.Basics.{if_then_else_, Result, accept, refuse, _>>=_}
-use Rattle.rules.specs.Values.{Event, Fallthrough, Max, Part, Step}
-use Rattle.rules.specs.Graph.{Graph, Cursor, cursor, NodeAction, Empty, addNode, addEdge, upsertNode, upsertAt, getEdge, settle, edgeBetween, edgeTo, nodeFor, addSimpleStep, addSimples, addOptionals, addMax, addRepeat, addIntermediate, mapPath, prefixPath}
+use Rattle.rules.specs.Values.{Event, Fallthrough, Min, Max, Part, Step}
+use Rattle.rules.specs.Graph.{Graph, Cursor, cursor, NodeAction, Empty, addNode, addEdge, upsertNode, upsertAt, getEdge, settle, edgeBetween, edgeTo, nodeFor, addSimpleStep, addSimples, addOptionals, addMin, addMax, addRepeat, addIntermediate, actionOf, mapPath, prefixLast, prefixPath}
 use Rattle.keygraph.specs.Making.{settledAt}
-use Rattle.keygraph.specs.Making.{Leads, Makes, resultOf, upserted, paid}
+use Rattle.keygraph.specs.Making.{Leads, Makes, resultOf, upserted, paid, addParts, minTo, minOn}
 use Rattle.keygraph.specs.Making.{outcome, cursorIn}
 use Rattle.keygraph.specs.declared.cursor.Cursor as C
-use Rattle.keygraph.specs.View.{eventAt, graphIn, resultBy, settled}
+use Rattle.keyparts.specs.View.{eventAt}
+use Rattle.keygraph.specs.View.{graphIn, resultBy, settled}
 use Rattle.keygraph.specs.declared.graph.Counts.{Counts}
 use Rattle.keygraph.specs.declared.graph.Answer.{Answer}
 use Rattle.keygraph.specs.declared.graph.Answer.the-variants.{Accepted, Refused}
 use Rattle.rules.specs.Calls as calls
-use Rattle.keygraph.proofs.Words.{event-fall}
+use Rattle.keyparts.proofs.Words.{event-fall, take-min}
+use Rattle.keyparts.proofs.Finds.{map-append}
+use Rattle.keygraph.proofs.Binds.{then as next, with, bind-assoc, leads-as}
 
 -- ---- one call: n is the refusal's number of the cursor, and a the cursor itself
 module _ {A B : Type 0} (n : ℕ) (a : A) where
@@ -171,48 +179,144 @@ module _ (mode : ℕ) (ev : Event) where
     optionals-none x i e = rw e (same-result x)
 
 -- ---- repeats
-pub max-some : {x y : Result Cursor} (mode : ℕ) (ev : Event) (n : ℕ) → (n ≡ 0 → ⊥)
-    → Leads x (λ c. nodeFor mode Empty c >>= (λ e. edgeTo (e .1) Fallthrough (e .0) >>= (λ c₁. addMax n mode ev (e .1) c₁ >>= (λ c₂. accept (cursor (c₂ .graph) (e .1) (c₂ .fallthrough)))))) y
-    → Leads x (addRepeat mode (Max n) ev) y
-unfolding addRepeat
-max-some mode ev zero h l = absurd (h refl)
-max-some mode ev (suc n) h l = l
+module _ (mode : ℕ) (ev : Event) where
+  pub min-none : {x y z : Result Cursor} (n end loop : ℕ) → n ≡ 0 → Leads x (edgeTo end Fallthrough) y → Leads y (edgeTo loop ev) z → Leads x (minTo n mode ev end loop) z
+  unfolding minTo addMin
+  min-none n end loop e h k = rw e (next h k)
 
--- ---- paths: the parts from a place on
-module _ (mode : ℕ) (s : Step) where
-  pub map-more : {x y : Result Cursor} (p q : Part) (ds es fs : List Part) → ds ≡ p ∷ es → es ≡ q ∷ fs → Leads x (addIntermediate mode p) y → (y >>= mapPath mode es s) ≡ x >>= mapPath mode ds s
-  unfolding mapPath
-  map-more {x} {y} p q ds es fs e f h = rw (e, f) (back (mapPath mode (q ∷ fs) s) h)
+  pub min-some : {x y z : Result Cursor} (n end loop m : ℕ) → n ≡ suc m → Leads x (addSimples m mode ev) y → Leads y (edgeTo loop ev) z → Leads x (minTo n mode ev end loop) z
+  unfolding minTo addMin
+  min-some n end loop m e h k = rw e (next h k)
 
-  pub map-last : {x y r : Result Cursor} (p : Part) (ds es : List Part) → ds ≡ p ∷ es → es ≡ [] → Leads x (mapPath mode (p ∷ []) s) y → (x >>= mapPath mode ds s) ≡ r → y ≡ r
-  map-last {x} {y} {r} p ds es e f h k = h .is ∙ (rw (e, f) at k)
+  pub on-none : {x y : Result Cursor} (n loop : ℕ) → n ≡ 0 → Leads x (edgeTo loop Fallthrough) y → Leads x (minOn n mode ev loop) y
+  unfolding minOn
+  on-none n loop e h = rw e h
 
-  pub map-none : (x : Result Cursor) (ds : List Part) → ds ≡ [] → Leads x (mapPath mode ds s) x
-  unfolding mapPath
-  map-none x ds e = rw e (record { is = sym (same-result x) })
+  pub on-some : {x y z : Result Cursor} (n loop m : ℕ) → n ≡ suc m → Leads x (addSimples m mode ev) y → Leads y (edgeTo loop ev) z → Leads x (minOn n mode ev loop) z
+  unfolding minOn
+  on-some n loop m e h k = rw e (next h k)
 
-module _ (mode : ℕ) (os : Option Step) where
-  pub prefix-more : {x y : Result Cursor} (single : Bool) (p q : Part) (ds es fs : List Part) → ds ≡ p ∷ es → es ≡ q ∷ fs → Leads x (addIntermediate mode p) y
-      → (y >>= prefixPath mode false es os) ≡ x >>= prefixPath mode single ds os
-  unfolding prefixPath
-  prefix-more {x} {y} single p q ds es fs e f h = rw (e, f) (back (prefixPath mode false (q ∷ fs) os) h)
+-- a chain goes on after two steps that are one call
+module _ (mode : ℕ) (ev : Event) (loop : ℕ) {x y : Result Cursor} {B : Type 0} {z : Result B} {h : Cursor → Result B} where
+  pub next-min : (n end : ℕ) → Leads x (minTo n mode ev end loop) y → Leads y h z → Leads x (λ c. addMin n mode ev end c >>= (λ c₁. edgeTo loop ev c₁ >>= h)) z
+  unfolding minTo
+  next-min n end l k = leads-as (λ c. minTo n mode ev end loop c >>= h) _ (λ c. bind-assoc (addMin n mode ev end c) (edgeTo loop ev) h) (next l k)
 
-  pub prefix-last : {x y r : Result Cursor} (single : Bool) (p : Part) (ds es : List Part) → ds ≡ p ∷ es → es ≡ [] → Leads x (prefixPath mode single (p ∷ []) os) y → (x >>= prefixPath mode single ds os) ≡ r → y ≡ r
-  prefix-last {x} {y} {r} single p ds es e f h k = h .is ∙ (rw (e, f) at k)
+  next-on : (n : ℕ) → Leads x (minOn (suc n) mode ev loop) y → Leads y h z → Leads x (λ c. addSimples n mode ev c >>= (λ c₁. edgeTo loop ev c₁ >>= h)) z
+  unfolding minOn
+  next-on n l k = leads-as (λ c. minOn (suc n) mode ev loop c >>= h) _ (λ c. bind-assoc (addSimples n mode ev c) (edgeTo loop ev) h) (next l k)
 
-  pub prefix-none : (x : Result Cursor) (single : Bool) (ds : List Part) → ds ≡ [] → Leads x (prefixPath mode single ds os) x
-  unfolding prefixPath
-  prefix-none x single ds e = rw e (record { is = sym (same-result x) })
+module _ {x y z u w : Result Cursor} (mode : ℕ) (ev : Event) where
+  pub min-repeats : (n m : ℕ) → Makes x (nodeFor mode Empty) y m → Leads y (edgeBetween m m ev) z → Leads z (minOn n mode ev m) u → Leads u (λ c. accept (cursor (c .graph) m true)) w
+      → Leads x (addRepeat mode (Min n) ev) w
+  unfolding addRepeat minOn
+  min-repeats zero m a b c d = with _ a (next b (next c d))
+  min-repeats (suc n) m a b c d = with _ a (next b (next-on mode ev m n c d))
+
+module _ {x y : Result Cursor} (mode : ℕ) (ev : Event) where
+  pub max-repeats : (n : ℕ) → (n ≡ 0 → ⊥)
+      → Leads x (λ c. nodeFor mode Empty c >>= (λ e. edgeTo (e .1) Fallthrough (e .0) >>= (λ c₁. addMax n mode ev (e .1) c₁ >>= (λ c₂. accept (cursor (c₂ .graph) (e .1) (c₂ .fallthrough)))))) y
+      → Leads x (addRepeat mode (Max n) ev) y
+  unfolding addRepeat
+  max-repeats zero h l = absurd (h refl)
+  max-repeats (suc n) h l = l
+
+-- a prefix's Max, where it makes anything
+abbrev maxChain : ℕ → ℕ → Event → Option Step → Cursor → Result Cursor
+maxChain n mode ev os c = do
+  e ← nodeFor mode (actionOf os) c
+  c₁ ← edgeTo (e .1) Fallthrough (e .0)
+  c₂ ← edgeBetween (e .1) mode Fallthrough c₁
+  addMax n mode ev (e .1) c₂
+
+pub max-prefixes : {x y : Result Cursor} (mode : ℕ) (ev : Event) (n : ℕ) (single : Bool) (os : Option Step) → (single && eqb n 0) ≡ false → Leads x (maxChain n mode ev os) y → Leads x (prefixLast mode single (Max n) ev os) y
+unfolding prefixLast
+max-prefixes mode ev n single os e l = leads-as (maxChain n mode ev os) (prefixLast mode single (Max n) ev os) (λ c. rw e) l
+
+-- ---- paths: the parts before the last, and the last
+
+pub view-last : {A B : Type 0} (f : A → B) (m : ℕ) (ys : List A) (d : A) (n l : ℕ) → n ≡ min m (length ys) → n ≡ suc l → map f (take m ys) ≡ map f (take l ys) ++ (f (getD ys l d) ∷ [])
+view-last f m ys d n l e s =
+    let h : l < length ys = omega arith in
+    let k : min m (length ys) ≡ suc l = omega arith in
+    ap (map f) (sym (take-min m (length ys) ys refl) ∙ ap (λ (i : ℕ). take i ys) k ∙ take-suc ys l d h) ∙ map-append f (take l ys) (getD ys l d ∷ [])
+
+pub view-count : {A B : Type 0} (f : A → B) (ys : List A) (l : ℕ) → l ≤ length ys → length (map f (take l ys)) ≡ l
+view-count f ys l h = omega (arith, length-map (take l ys) f, length-take l ys)
+
+module _ (mode : ℕ) where
+  pub parts-more : {x y : Result Cursor} (p : Part) (ds es : List Part) → ds ≡ p ∷ es → Leads x (addIntermediate mode p) y → (y >>= addParts mode es) ≡ x >>= addParts mode ds
+  unfolding addParts
+  parts-more p ds es e h = rw e (back (addParts mode es) h)
+
+  pub parts-none : (x : Result Cursor) (ds : List Part) → ds ≡ [] → (x >>= addParts mode ds) ≡ x
+  unfolding addParts
+  parts-none x ds e = rw e (same-result x)
+
+module _ (mode : ℕ) (s : Step) (p : Part) where
+  map-split : (ps : List Part) (c : Cursor) → (addParts mode ps c >>= mapPath mode (p ∷ []) s) ≡ mapPath mode (ps ++ (p ∷ [])) s c
+  unfolding mapPath addParts
+  map-split [] c = refl
+  map-split (q ∷ ps) c = go (map-split ps) (addIntermediate mode q c) ∙ unroll ps
+    where
+      go : ((c : Cursor) → (addParts mode ps c >>= mapPath mode (p ∷ []) s) ≡ mapPath mode (ps ++ (p ∷ [])) s c) → (r : Result Cursor)
+          → ((r >>= addParts mode ps) >>= mapPath mode (p ∷ []) s) ≡ (r >>= mapPath mode (ps ++ (p ∷ [])) s)
+      go ih (accept c) = ih c
+      go ih (refuse n) = refl
+
+      unroll : (ps : List Part) → (addIntermediate mode q c >>= mapPath mode (ps ++ (p ∷ [])) s) ≡ mapPath mode (q ∷ (ps ++ (p ∷ []))) s c
+      unroll [] = refl
+      unroll (r ∷ ps) = refl
+
+  pub map-whole : {x y z : Result Cursor} (ps ds : List Part) → ds ≡ ps ++ (p ∷ []) → Leads x (addParts mode ps) y → Leads y (mapPath mode (p ∷ []) s) z → Leads x (mapPath mode ds s) z
+  map-whole ps ds e h k = rw e (leads-as (λ c. addParts mode ps c >>= mapPath mode (p ∷ []) s) (mapPath mode (ps ++ (p ∷ [])) s) (map-split ps) (next h k))
+
+pub map-none : (mode : ℕ) (s : Step) (x : Result Cursor) (ds : List Part) → ds ≡ [] → Leads x (mapPath mode ds s) x
+unfolding mapPath
+map-none mode s x ds e = rw e (record { is = sym (same-result x) })
+
+module _ (mode : ℕ) (os : Option Step) (p : Part) where
+  -- a part more before parts for which the law holds
+  prefix-part : (q : Part) (ps : List Part) → ((c : Cursor) → (addParts mode ps c >>= prefixPath mode false (p ∷ []) os) ≡ prefixPath mode false (ps ++ (p ∷ [])) os c) → (b : Bool) (c : Cursor)
+      → (addParts mode (q ∷ ps) c >>= prefixPath mode false (p ∷ []) os) ≡ prefixPath mode b (q ∷ (ps ++ (p ∷ []))) os c
+  unfolding prefixPath addParts
+  prefix-part q ps ih b c = go (addIntermediate mode q c) ∙ unroll ps
+    where
+      go : (r : Result Cursor) → ((r >>= addParts mode ps) >>= prefixPath mode false (p ∷ []) os) ≡ (r >>= prefixPath mode false (ps ++ (p ∷ [])) os)
+      go (accept c) = ih c
+      go (refuse n) = refl
+
+      unroll : (ps : List Part) → (addIntermediate mode q c >>= prefixPath mode false (ps ++ (p ∷ [])) os) ≡ prefixPath mode b (q ∷ (ps ++ (p ∷ []))) os c
+      unroll [] = refl
+      unroll (r ∷ ps) = refl
+
+  prefix-split : (ps : List Part) (c : Cursor) → (addParts mode ps c >>= prefixPath mode false (p ∷ []) os) ≡ prefixPath mode false (ps ++ (p ∷ [])) os c
+  unfolding addParts
+  prefix-split [] c = refl
+  prefix-split (q ∷ ps) c = prefix-part q ps (prefix-split ps) false c
+
+  pub prefix-whole : {x y z : Result Cursor} (single : Bool) (ps ds : List Part) → ds ≡ ps ++ (p ∷ []) → single ≡ eqb (length ps) 0 → Leads x (addParts mode ps) y → Leads y (prefixPath mode single (p ∷ []) os) z
+      → Leads x (prefixPath mode true ds os) z
+  unfolding addParts
+  prefix-whole single [] ds e b h k = rw e (leads-as (λ c. addParts mode [] c >>= prefixPath mode true (p ∷ []) os) (prefixPath mode true (p ∷ []) os) (λ c. refl) (next h (rw b at k)))
+  prefix-whole single (q ∷ ps) ds e b h k = rw e (leads-as (λ c. addParts mode (q ∷ ps) c >>= prefixPath mode false (p ∷ []) os) (prefixPath mode true (q ∷ (ps ++ (p ∷ []))) os) (prefix-part q ps (prefix-split ps) true) (next h (rw (b ∙ more (length ps)) at k)))
+    where
+      more : (n : ℕ) → eqb (suc n) 0 ≡ false
+      more n = ne-eqb (suc n) 0 (λ (z : suc n ≡ 0). omega arith)
+
+pub prefix-none : (mode : ℕ) (os : Option Step) (x : Result Cursor) (single : Bool) (ds : List Part) → ds ≡ [] → Leads x (prefixPath mode single ds os) x
+unfolding prefixPath
+prefix-none mode os x single ds e = rw e (record { is = sym (same-result x) })
 
 -- ---- the same laws at a cursor over words
-module _ (hs ws es : List ℕ) (s : C.Cursor) where
-  pub alters-in : {f : Cursor → Result Cursor} (b : Cursor) → f (cursorIn hs ws es s) ≡ accept b → Leads (outcome hs ws es s) f (resultOf (s .refusal) b)
+module _ (ws : List ℕ) (s : C.Cursor) where
+  pub alters-in : {f : Cursor → Result Cursor} (b : Cursor) → f (cursorIn ws s) ≡ accept b → Leads (outcome ws s) f (resultOf (s .refusal) b)
   unfolding outcome
-  alters-in b e = alters (s .refusal) (cursorIn hs ws es s) b e
+  alters-in b e = alters (s .refusal) (cursorIn ws s) b e
 
-  pub restates-in : {f : Cursor → Result Cursor} (f′ : Cursor → Result Cursor) {y : Result Cursor} → f (cursorIn hs ws es s) ≡ f′ (cursorIn hs ws es s) → Leads (outcome hs ws es s) f y → Leads (outcome hs ws es s) f′ y
+  pub restates-in : {f : Cursor → Result Cursor} (f′ : Cursor → Result Cursor) {y : Result Cursor} → f (cursorIn ws s) ≡ f′ (cursorIn ws s) → Leads (outcome ws s) f y → Leads (outcome ws s) f′ y
   unfolding outcome
-  restates-in f′ e h = restates (s .refusal) (cursorIn hs ws es s) f′ e h
+  restates-in f′ e h = restates (s .refusal) (cursorIn ws s) f′ e h
 
 -- ---- the code of Fallthrough
 module _ {x y : Result Cursor} where
@@ -223,10 +327,10 @@ module _ {x y : Result Cursor} where
   between-falls from to h = rw event-fall at h
 
 -- ---- the whole call: from the root of the mode, and what is left of the cursor is its graph
-pub call-done : (hs ws es : List ℕ) (k : Counts) (mode : ℕ) (f : Cursor → Result Cursor) {y : Result Cursor} (s : C.Cursor) → s ≡ record { counts = k; prev = mode; owed = false; refusal = 0 }
-    → Leads (outcome hs ws es s) f y → (y >>= (λ c. accept (c .graph))) ≡ (f (cursor (graphIn hs ws es k) mode false) >>= (λ c. accept (c .graph)))
+pub call-done : (ws : List ℕ) (k : Counts) (mode : ℕ) (f : Cursor → Result Cursor) {y : Result Cursor} (s : C.Cursor) → s ≡ record { counts = k; prev = mode; owed = false; refusal = 0 }
+    → Leads (outcome ws s) f y → (y >>= (λ c. accept (c .graph))) ≡ (f (cursor (graphIn ws k) mode false) >>= (λ c. accept (c .graph)))
 unfolding outcome resultOf
-call-done hs ws es k mode f {y} s e l = ap (λ (r : Result Cursor). r >>= (λ c. accept (c .graph))) (rw e at (l .is))
+call-done ws k mode f {y} s e l = ap (λ (r : Result Cursor). r >>= (λ c. accept (c .graph))) (rw e at (l .is))
 
 -- ---- the call by value
 module _ (old new : Graph) (a : Answer) (r : Result Graph) (h : resultBy a new ≡ r) where

@@ -1,7 +1,4 @@
 -- Laws that belong to no one function.
-pub mod Words
-pub mod Finds
-pub mod Nodes
+pub mod Places
 pub mod Binds
 pub mod Cursors
-pub mod Ranges

@@ -1,3 +1,3 @@
--- What the code's words and types mean in the values of the rules, and what a chain of calls on a cursor comes to.
+-- What the graph's words mean in the values of the rules, and what a chain of calls on a cursor comes to.
 pub mod View
 pub mod Making

@@ -2,24 +2,12 @@
 -- the code is the chain of the rules.
 use Prim.Native.Nat.{ℕ, zero, suc}
 use mathlib.Core.Path.{_≡_}
-use mathlib.Core.Option.{Option}
-use mathlib.Core.List.{List}
-use lib.ListN.{length}
+use mathlib.Core.List.{List, [], _∷_}
 use Rattle.rules.specs.Basics.{if_then_else_, Result, accept, refuse, _>>=_}
 use Rattle.rules.specs.Values as v
 use Rattle.rules.specs.Graph as g
 use Rattle.keygraph.specs.declared.cursor.Cursor.{Cursor}
 use Rattle.keygraph.specs.View.{graphIn}
-
--- the lengths that the arrays' types say
-pub record SizedNodes (hs ws : List ℕ) : Type 0 where
-  pub heads : length hs ≡ 1040
-  pub acts : length ws ≡ 1040
-
-pub record Sized (hs ws es : List ℕ) : Type 0 where
-  pub heads : length hs ≡ 1040
-  pub acts : length ws ≡ 1040
-  pub edges : length es ≡ 2048
 
 -- y is what x comes to by f, and a refusal of x is kept
 pub record Leads {A B : Type 0} (x : Result A) (f : A → Result B) (y : Result B) : Type 0 where
@@ -35,11 +23,11 @@ resultOf zero a = accept a
 resultOf (suc n) a = refuse (suc n)
 
 -- a cursor over words
-abbrev pub cursorIn : List ℕ → List ℕ → List ℕ → Cursor → g.Cursor
-cursorIn hs ws es c = g.cursor (graphIn hs ws es (c .counts)) (c .prev) (c .owed)
+abbrev pub cursorIn : List ℕ → Cursor → g.Cursor
+cursorIn ws c = g.cursor (graphIn ws (c .counts)) (c .prev) (c .owed)
 
-unfoldable pub outcome : List ℕ → List ℕ → List ℕ → Cursor → Result g.Cursor
-outcome hs ws es c = resultOf (c .refusal) (cursorIn hs ws es c)
+unfoldable pub outcome : List ℕ → Cursor → Result g.Cursor
+outcome ws c = resultOf (c .refusal) (cursorIn ws c)
 
 -- ---- parts of the rules' functions on a cursor
 
@@ -57,10 +45,22 @@ upserted mode ev action c = onGraph (g.upsertNode mode (c .prev) ev action) c
 unfoldable pub paid : ℕ → g.Cursor → Result g.Cursor
 paid to c = if c .fallthrough then g.edgeTo to v.Fallthrough c else accept c
 
--- the last clause of `prefixLast`, without its test
-unfoldable pub maxPrefix : ℕ → ℕ → v.Event → Option v.Step → g.Cursor → Result g.Cursor
-maxPrefix n mode ev os c = do
-  e ← g.nodeFor mode (g.actionOf os) c
-  c₁ ← g.edgeTo (e .1) v.Fallthrough (e .0)
-  c₂ ← g.edgeBetween (e .1) mode v.Fallthrough c₁
-  g.addMax n mode ev (e .1) c₂
+-- the parts of a path before its last
+unfoldable pub addParts : ℕ → List v.Part → g.Cursor → Result g.Cursor
+addParts mode [] c = accept c
+addParts mode (p ∷ ps) c = do
+  c₁ ← g.addIntermediate mode p c
+  addParts mode ps c₁
+
+-- at least n times, and then on to the node that the event leads back to
+unfoldable pub minTo : ℕ → ℕ → v.Event → ℕ → ℕ → g.Cursor → Result g.Cursor
+minTo n mode ev end loop c = do
+  c₁ ← g.addMin n mode ev end c
+  g.edgeTo loop ev c₁
+
+-- the same where the path goes on from that node: at 0 it is the end, too
+unfoldable pub minOn : ℕ → ℕ → v.Event → ℕ → g.Cursor → Result g.Cursor
+minOn zero mode ev loop c = g.edgeTo loop v.Fallthrough c
+minOn (suc n) mode ev loop c = do
+  c₁ ← g.addSimples n mode ev c
+  g.edgeTo loop ev c₁

@@ -1,21 +1,19 @@
 // A cursor: where the making of a path stands. The graph's words are lent to each call, and the small state goes by value.
 // A cursor that is refused stays as it is, so that a chain of calls needs no test in between.
-use crate::edge;
-use crate::event;
 use crate::graph::Counts;
-use crate::node;
-use crate::node::Packed;
-use crate::number;
-use crate::step::Maybe;
-use crate::step::Step;
+use crate::parts;
+use keyparts::event;
+use keyparts::node::Packed;
+use keyparts::number;
+use keyparts::step::Maybe;
 ghost use mathlib.Core.Path.{_≡_};
 ghost use mathlib.Core.List.{List};
 ghost use Prim.Native.Nat.{ℕ, _<_};
 ghost use lib.ListN.{length};
 ghost use Rattle.rules.specs.Basics.{accept};
 ghost use Rattle.rules.specs.Graph as g;
-ghost use Rattle.keygraph.specs.View.{eventAt, packedOf, stepOf};
-ghost use Rattle.keygraph.specs.Making.{SizedNodes, Leads, Makes, outcome, settledAt, upserted, paid};
+ghost use Rattle.keyparts.specs.View.{eventAt, packedOf};
+ghost use Rattle.keygraph.specs.Making.{Leads, Makes, outcome, settledAt, upserted, paid};
 
 // `prev` is the node come to, `owed` whether a Fallthrough edge is owed from there, and `refusal` the number of the
 // refusal met, or 0.
@@ -79,7 +77,7 @@ impl Cursor {
 
     // The cursor moves to a node.
     pub(crate) fn go(self, node: u16) -> Cursor
-        ensures { λ r. ⌜ ((hs ws es : List ℕ) → Leads (outcome hs ws es self) (λ c. accept (g.cursor (c .graph) node (c .fallthrough))) (outcome hs ws es r)) ⌝ }
+        ensures { λ r. ⌜ ((ws : List ℕ) → Leads (outcome ws self) (λ c. accept (g.cursor (c .graph) node (c .fallthrough))) (outcome ws r)) ⌝ }
     {
         let k = self.counts;
         Cursor {
@@ -92,7 +90,7 @@ impl Cursor {
 
     // The cursor moves to a node, from which a Fallthrough edge is owed or not.
     pub(crate) fn go_owing(self, node: u16, owed: bool) -> Cursor
-        ensures { λ r. ⌜ ((hs ws es : List ℕ) → Leads (outcome hs ws es self) (λ c. accept (g.cursor (c .graph) node owed)) (outcome hs ws es r)) ⌝ }
+        ensures { λ r. ⌜ ((ws : List ℕ) → Leads (outcome ws self) (λ c. accept (g.cursor (c .graph) node owed)) (outcome ws r)) ⌝ }
     {
         let k = self.counts;
         Cursor {
@@ -104,24 +102,24 @@ impl Cursor {
     }
 
     // An edge between any two nodes: the one with the same start and event is replaced, and else it goes to the end.
-    pub(crate) fn add_edge(self, edges: &mut [u64; 2048], from: u16, to: u16, code: u32) -> Cursor
-        requires { ⌜ length (now edges) ≡ 2048 ⌝ }
-        ensures { λ r. ⌜ length (now (edges .exit)) ≡ 2048 ⌝ }
-        ensures { λ r. ⌜ ((hs ws : List ℕ) → Leads (outcome hs ws (now (edges .entry)) self) (g.edgeBetween from to (eventAt code)) (outcome hs ws (now (edges .exit)) r)) ⌝ }
+    pub(crate) fn add_edge(self, words: &mut [u64; 4128], from: u16, to: u16, code: u32) -> Cursor
+        requires { ⌜ length (now words) ≡ 4128 ⌝ }
+        ensures { λ r. ⌜ length (now (words .exit)) ≡ 4128 ⌝ }
+        ensures { λ r. ⌜ Leads (outcome (now (words .entry)) self) (g.edgeBetween from to (eventAt code)) (outcome (now (words .exit)) r) ⌝ }
     {
         if self.refusal == 0 {
             let k = self.counts.edges;
             let n = number::least_of(k, 2048);
             let key = number::key_of(from, code);
-            let i = edge::scan(edges, k, key);
+            let i = parts::scan(words, k, key);
             let w = (to as u64) + 65536 * key;
             if i < (n as usize) {
-                edges[i] = w;
+                words[i] = w;
                 return self;
             }
             if n < 2048 {
                 let j = n as usize;
-                edges[j] = w;
+                words[j] = w;
                 return self.with_edges(n + 1);
             }
             return self.refused(3);
@@ -130,40 +128,40 @@ impl Cursor {
     }
 
     // An edge from where the cursor stands.
-    pub(crate) fn edge_to(self, edges: &mut [u64; 2048], to: u16, code: u32) -> Cursor
-        requires { ⌜ length (now edges) ≡ 2048 ⌝ }
-        ensures { λ r. ⌜ length (now (edges .exit)) ≡ 2048 ⌝ }
-        ensures { λ r. ⌜ ((hs ws : List ℕ) → Leads (outcome hs ws (now (edges .entry)) self) (g.edgeTo to (eventAt code)) (outcome hs ws (now (edges .exit)) r)) ⌝ }
+    pub(crate) fn edge_to(self, words: &mut [u64; 4128], to: u16, code: u32) -> Cursor
+        requires { ⌜ length (now words) ≡ 4128 ⌝ }
+        ensures { λ r. ⌜ length (now (words .exit)) ≡ 4128 ⌝ }
+        ensures { λ r. ⌜ Leads (outcome (now (words .entry)) self) (g.edgeTo to (eventAt code)) (outcome (now (words .exit)) r) ⌝ }
     {
         let from = self.prev;
-        self.add_edge(edges, from, to, code)
+        self.add_edge(words, from, to, code)
     }
 
     // The Fallthrough edge that is owed, if one is.
-    pub(crate) fn pay(self, edges: &mut [u64; 2048], to: u16) -> Cursor
-        requires { ⌜ length (now edges) ≡ 2048 ⌝ }
-        ensures { λ r. ⌜ length (now (edges .exit)) ≡ 2048 ⌝ }
-        ensures { λ r. ⌜ ((hs ws : List ℕ) → Leads (outcome hs ws (now (edges .entry)) self) (paid to) (outcome hs ws (now (edges .exit)) r)) ⌝ }
+    pub(crate) fn pay(self, words: &mut [u64; 4128], to: u16) -> Cursor
+        requires { ⌜ length (now words) ≡ 4128 ⌝ }
+        ensures { λ r. ⌜ length (now (words .exit)) ≡ 4128 ⌝ }
+        ensures { λ r. ⌜ Leads (outcome (now (words .entry)) self) (paid to) (outcome (now (words .exit)) r) ⌝ }
     {
         if self.owed {
-            return self.edge_to(edges, to, event::FALLTHROUGH);
+            return self.edge_to(words, to, event::FALLTHROUGH);
         }
         self
     }
 
     // A node more.
-    pub(crate) fn add_node(self, heads: &mut [u64; 1040], acts: &mut [u64; 1040], p: Packed) -> Made
-        requires { ⌜ SizedNodes (now heads) (now acts) ⌝ }
-        ensures { λ r. ⌜ SizedNodes (now (heads .exit)) (now (acts .exit)) ⌝ }
-        ensures { λ r. ⌜ ((es : List ℕ) → Makes (outcome (now (heads .entry)) (now (acts .entry)) es self) (g.nodeFor (packedOf p .mode) (packedOf p .action)) (outcome (now (heads .exit)) (now (acts .exit)) es (r .cursor)) (r .node)) ⌝ }
+    pub(crate) fn add_node(self, words: &mut [u64; 4128], p: Packed) -> Made
+        requires { ⌜ length (now words) ≡ 4128 ⌝ }
+        ensures { λ r. ⌜ length (now (words .exit)) ≡ 4128 ⌝ }
+        ensures { λ r. ⌜ Makes (outcome (now (words .entry)) self) (g.nodeFor (packedOf p .mode) (packedOf p .action)) (outcome (now (words .exit)) (r .cursor)) (r .node) ⌝ }
     {
         if self.refusal == 0 {
             let k = self.counts.nodes;
             let n = number::least_of(k, 1040);
             if n < 1040 {
                 let i = n as usize;
-                heads[i] = p.head;
-                acts[i] = p.acts;
+                words[2048 + i] = p.head;
+                words[3088 + i] = p.acts;
                 let c = self.with_nodes(n + 1);
                 return Made { cursor: c, node: n };
             }
@@ -176,42 +174,21 @@ impl Cursor {
         }
     }
 
-    pub(crate) fn add_empty(
-        self,
-        heads: &mut [u64; 1040],
-        acts: &mut [u64; 1040],
-        mode: u16,
-    ) -> Made
+    pub(crate) fn add_empty(self, words: &mut [u64; 4128], mode: u16) -> Made
         requires { ⌜ mode < 16 ⌝ }
-        requires { ⌜ SizedNodes (now heads) (now acts) ⌝ }
-        ensures { λ r. ⌜ SizedNodes (now (heads .exit)) (now (acts .exit)) ⌝ }
-        ensures { λ r. ⌜ ((es : List ℕ) → Makes (outcome (now (heads .entry)) (now (acts .entry)) es self) (g.nodeFor mode g.Empty) (outcome (now (heads .exit)) (now (acts .exit)) es (r .cursor)) (r .node)) ⌝ }
+        requires { ⌜ length (now words) ≡ 4128 ⌝ }
+        ensures { λ r. ⌜ length (now (words .exit)) ≡ 4128 ⌝ }
+        ensures { λ r. ⌜ Makes (outcome (now (words .entry)) self) (g.nodeFor mode g.Empty) (outcome (now (words .exit)) (r .cursor)) (r .node) ⌝ }
     {
         let p = Packed::empty(mode);
-        self.add_node(heads, acts, p)
-    }
-
-    pub(crate) fn add_holder(
-        self,
-        heads: &mut [u64; 1040],
-        acts: &mut [u64; 1040],
-        mode: u16,
-        step: Step,
-    ) -> Made
-        requires { ⌜ mode < 16 ⌝ }
-        requires { ⌜ SizedNodes (now heads) (now acts) ⌝ }
-        ensures { λ r. ⌜ SizedNodes (now (heads .exit)) (now (acts .exit)) ⌝ }
-        ensures { λ r. ⌜ ((es : List ℕ) → Makes (outcome (now (heads .entry)) (now (acts .entry)) es self) (g.nodeFor mode (g.Holds (stepOf step))) (outcome (now (heads .exit)) (now (acts .exit)) es (r .cursor)) (r .node)) ⌝ }
-    {
-        let p = step.pack(mode);
-        self.add_node(heads, acts, p)
+        self.add_node(words, p)
     }
 
     // The node at the end of an edge that is there: if the words hold a step, it gets them and is held to their mode.
-    fn settle(self, heads: &mut [u64; 1040], acts: &mut [u64; 1040], node: u16, p: Packed) -> Made
-        requires { ⌜ SizedNodes (now heads) (now acts) ⌝ }
-        ensures { λ r. ⌜ SizedNodes (now (heads .exit)) (now (acts .exit)) ⌝ }
-        ensures { λ r. ⌜ ((es : List ℕ) → Makes (outcome (now (heads .entry)) (now (acts .entry)) es self) (settledAt (packedOf p .mode) node (packedOf p .action)) (outcome (now (heads .exit)) (now (acts .exit)) es (r .cursor)) (r .node)) ⌝ }
+    fn settle(self, words: &mut [u64; 4128], node: u16, p: Packed) -> Made
+        requires { ⌜ length (now words) ≡ 4128 ⌝ }
+        ensures { λ r. ⌜ length (now (words .exit)) ≡ 4128 ⌝ }
+        ensures { λ r. ⌜ Makes (outcome (now (words .entry)) self) (settledAt (packedOf p .mode) node (packedOf p .action)) (outcome (now (words .exit)) (r .cursor)) (r .node) ⌝ }
     {
         let kept = Made {
             cursor: self,
@@ -223,12 +200,12 @@ impl Cursor {
             }
             let k = self.counts.nodes;
             let n = number::least_of(k, 1040);
-            let old = node::head_at(heads, k, node);
+            let old = parts::head_at(words, k, node);
             if old % 128 == p.head % 128 {
                 if node < n {
                     let i = node as usize;
-                    heads[i] = p.head;
-                    acts[i] = p.acts;
+                    words[2048 + i] = p.head;
+                    words[3088 + i] = p.acts;
                     return kept;
                 }
                 return kept;
@@ -240,23 +217,16 @@ impl Cursor {
     }
 
     // The end of the cursor's edge for the event, or else a node more.
-    pub(crate) fn upsert_node(
-        self,
-        heads: &mut [u64; 1040],
-        acts: &mut [u64; 1040],
-        edges: &[u64],
-        code: u32,
-        p: Packed,
-    ) -> Made
-        requires { ⌜ SizedNodes (now heads) (now acts) ⌝ }
-        ensures { λ r. ⌜ SizedNodes (now (heads .exit)) (now (acts .exit)) ⌝ }
-        ensures { λ r. ⌜ Makes (outcome (now (heads .entry)) (now (acts .entry)) (now (edges .entry)) self) (upserted (packedOf p .mode) (eventAt code) (packedOf p .action)) (outcome (now (heads .exit)) (now (acts .exit)) (now (edges .entry)) (r .cursor)) (r .node) ⌝ }
+    pub(crate) fn upsert_node(self, words: &mut [u64; 4128], code: u32, p: Packed) -> Made
+        requires { ⌜ length (now words) ≡ 4128 ⌝ }
+        ensures { λ r. ⌜ length (now (words .exit)) ≡ 4128 ⌝ }
+        ensures { λ r. ⌜ Makes (outcome (now (words .entry)) self) (upserted (packedOf p .mode) (eventAt code) (packedOf p .action)) (outcome (now (words .exit)) (r .cursor)) (r .node) ⌝ }
     {
         let k = self.counts.edges;
-        let e = edge::get_edge(edges, k, self.prev, code);
+        let e = parts::get_edge(words, k, self.prev, code);
         match e {
-            Maybe::Just(n) => self.settle(heads, acts, n, p),
-            Maybe::Nothing => self.add_node(heads, acts, p),
+            Maybe::Just(n) => self.settle(words, n, p),
+            Maybe::Nothing => self.add_node(words, p),
         }
     }
 }

@@ -1,17 +1,17 @@
 // A graph by value, over the functions that work on its words.
-use crate::edge;
-use crate::find;
-use crate::find::Found;
-use crate::follow;
-use crate::follow::FollowResult;
-use crate::node;
-use crate::node::Node;
+use crate::parts;
+use keyparts::find;
+use keyparts::find::Found;
+use keyparts::follow::FollowResult;
+use keyparts::node::Node;
 ghost use mathlib.Core.Path.{_≡_};
 ghost use Rattle.rules.specs.Graph as g;
 ghost use Rattle.rules.specs.Calls.{HintFits, FindFits};
-ghost use Rattle.keygraph.specs.View.{nodeOf, followOf, classesOf, graphOf, foundOf};
+ghost use Rattle.keyparts.specs.View.{nodeOf, followOf, classesOf, foundOf};
+ghost use Rattle.keygraph.specs.View.{graphOf};
 
 // How many words of the nodes and of the edges count.
+#[repr(C)]
 pub struct Counts {
     pub nodes: u16,
     pub edges: u16,
@@ -23,11 +23,11 @@ pub enum Answer {
     Refused(u16),
 }
 
-// The nodes' words, the edges' words, and how many of each count.
+// The words of the edges [0, 2048), the nodes' first words [2048, 3088) and their second ones [3088, 4128), and how many
+// edges and nodes count.
+#[repr(C)]
 pub struct Graph {
-    pub heads: [u64; 1040],
-    pub acts: [u64; 1040],
-    pub edges: [u64; 2048],
+    pub words: [u64; 4128],
     pub counts: Counts,
 }
 
@@ -57,27 +57,25 @@ impl Graph {
     pub fn fresh() -> Graph
         ensures { λ r. ⌜ graphOf r ≡ g.freshGraph ⌝ }
     {
-        let mut heads = [0u64; 1040];
-        heads[0] = 128;
-        heads[1] = 129;
-        heads[2] = 130;
-        heads[3] = 131;
-        heads[4] = 132;
-        heads[5] = 133;
-        heads[6] = 134;
-        heads[7] = 135;
-        heads[8] = 136;
-        heads[9] = 137;
-        heads[10] = 138;
-        heads[11] = 139;
-        heads[12] = 140;
-        heads[13] = 141;
-        heads[14] = 142;
-        heads[15] = 143;
+        let mut words = [0u64; 4128];
+        words[2048] = 128;
+        words[2049] = 129;
+        words[2050] = 130;
+        words[2051] = 131;
+        words[2052] = 132;
+        words[2053] = 133;
+        words[2054] = 134;
+        words[2055] = 135;
+        words[2056] = 136;
+        words[2057] = 137;
+        words[2058] = 138;
+        words[2059] = 139;
+        words[2060] = 140;
+        words[2061] = 141;
+        words[2062] = 142;
+        words[2063] = 143;
         Graph {
-            heads: heads,
-            acts: [0u64; 1040],
-            edges: [0u64; 2048],
+            words: words,
             counts: Counts {
                 nodes: 16,
                 edges: 0,
@@ -89,21 +87,21 @@ impl Graph {
         ensures { λ r. ⌜ nodeOf r ≡ g.getNode (graphOf self) node ⌝ }
     {
         let n = self.counts.nodes;
-        node::node_at(&self.heads, &self.acts, n, node)
+        parts::node_at(&self.words, n, node)
     }
 
     pub fn follow_edge(self, classes: &[u64], entries: u16, node: u16, key: u16) -> FollowResult
         ensures { λ r. ⌜ followOf r ≡ g.followEdge (classesOf (now (classes .entry)) entries) (graphOf self) node key ⌝ }
     {
         let n = self.counts.edges;
-        follow::follow_edge(&self.edges, n, classes, entries, node, key)
+        parts::follow_edge(&self.words, n, classes, entries, node, key)
     }
 
     pub fn has_edges(self, node: u16) -> bool
         ensures { λ r. ⌜ r ≡ g.hasEdges (graphOf self) node ⌝ }
     {
         let n = self.counts.edges;
-        edge::has_edges(&self.edges, n, node)
+        parts::has_edges(&self.words, n, node)
     }
 
     // How many nodes are left.
@@ -119,6 +117,6 @@ impl Graph {
         ensures { λ r. ⌜ FindFits (graphOf self) mode action (foundOf r) ⌝ }
     {
         let n = self.counts.nodes;
-        find::find_node(&self.heads, &self.acts, n, mode, action)
+        parts::find_node(&self.words, n, mode, action)
     }
 }

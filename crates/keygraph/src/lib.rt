@@ -1,19 +1,22 @@
-// The key graph: its types, adding bindings to it, following it by keys and finding in it. Every function is proved equal
-// to the definition of crates/rules/specs/Graph.antt that has its name, by the view of specs/View.antt.
+// The key graph: adding bindings to it, in place and by value, and the graph as a value. Every function is proved equal to
+// the definition of crates/rules/specs/Graph.antt that has its name, by the view of specs/View.antt.
 //
-// A graph is kept in three arrays of words with two counts, so that the functions that are called for every key take
-// slices and copy nothing, and those that add work in place.
-pub mod class;
+// A graph is kept in one array of words with two counts, so that the functions that add work in place and lend one array
+// to each call. What a graph is made of, and what is only read from slices of its words, stands in the crate below and is
+// handed on from here.
 mod cursor;
-pub mod edge;
-pub mod event;
-pub mod find;
-pub mod follow;
 pub mod graph;
 pub mod mapping;
-pub mod node;
-mod number;
-pub mod path;
+mod parts;
 pub mod prefix;
 mod repeat;
-pub mod step;
+
+pub use keyparts::class;
+pub use keyparts::edge;
+pub use keyparts::event;
+pub use keyparts::find;
+pub use keyparts::follow;
+pub use keyparts::node;
+pub use keyparts::number;
+pub use keyparts::path;
+pub use keyparts::step;

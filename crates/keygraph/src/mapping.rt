@@ -1,15 +1,16 @@
 // Adding a mapping, in place and by value.
 use crate::cursor::Cursor;
-use crate::event;
-use crate::event::EdgeRepeat;
 use crate::graph::Added;
 use crate::graph::Answer;
 use crate::graph::Counts;
 use crate::graph::Graph;
-use crate::path::EdgePath;
-use crate::path::EdgePathPart;
-use crate::step::Maybe;
-use crate::step::Step;
+use keyparts::event;
+use keyparts::event::EdgeRepeat;
+use keyparts::node::Packed;
+use keyparts::path::EdgePath;
+use keyparts::path::EdgePathPart;
+use keyparts::step::Maybe;
+use keyparts::step::Step;
 ghost use mathlib.Core.Path.{_≡_};
 ghost use mathlib.Core.List.{List, [], _∷_};
 ghost use mathlib.Core.Bool.{false};
@@ -18,8 +19,9 @@ ghost use lib.ListN.{length};
 ghost use Rattle.rules.specs.Basics as b;
 ghost use Rattle.rules.specs.Values as v;
 ghost use Rattle.rules.specs.Graph as g;
-ghost use Rattle.keygraph.specs.View.{eventAt, partOf, repeatOf, maybeOf, stepOf, pathOf, wholePath, wholeStep, graphIn, graphOf, resultBy, settled, addedOf};
-ghost use Rattle.keygraph.specs.Making.{Sized, Leads, outcome};
+ghost use Rattle.keyparts.specs.View.{eventAt, packedOf, partOf, repeatOf, maybeOf, stepOf, pathOf, wholePath, wholeStep};
+ghost use Rattle.keygraph.specs.View.{graphIn, graphOf, resultBy, settled, addedOf};
+ghost use Rattle.keygraph.specs.Making.{Leads, outcome};
 
 // What a call in place leaves beside the words.
 pub struct Placed {
@@ -42,7 +44,7 @@ impl Cursor {
 
     // What the calls on a cursor came to.
     pub(crate) fn placed(self) -> Placed
-        ensures { λ r. ⌜ ((hs ws es : List ℕ) → resultBy (r .answer) (graphIn hs ws es (r .counts)) ≡ b._>>=_ (outcome hs ws es self) (λ c. b.accept (c .graph))) ⌝ }
+        ensures { λ r. ⌜ ((ws : List ℕ) → resultBy (r .answer) (graphIn ws (r .counts)) ≡ b._>>=_ (outcome ws self) (λ c. b.accept (c .graph))) ⌝ }
     {
         let k = self.counts;
         let n = self.refusal;
@@ -58,13 +60,13 @@ impl Cursor {
         }
     }
 
-    fn map_fall(self, edges: &mut [u64; 2048], fall: Maybe) -> Cursor
-        requires { ⌜ length (now edges) ≡ 2048 ⌝ }
-        ensures { λ r. ⌜ length (now (edges .exit)) ≡ 2048 ⌝ }
-        ensures { λ r. ⌜ ((hs ws : List ℕ) → Leads (outcome hs ws (now (edges .entry)) self) (g.mapFall (maybeOf fall)) (outcome hs ws (now (edges .exit)) r)) ⌝ }
+    fn map_fall(self, words: &mut [u64; 4128], fall: Maybe) -> Cursor
+        requires { ⌜ length (now words) ≡ 4128 ⌝ }
+        ensures { λ r. ⌜ length (now (words .exit)) ≡ 4128 ⌝ }
+        ensures { λ r. ⌜ Leads (outcome (now (words .entry)) self) (g.mapFall (maybeOf fall)) (outcome (now (words .exit)) r) ⌝ }
     {
         match fall {
-            Maybe::Just(m) => self.edge_to(edges, m, event::FALLTHROUGH),
+            Maybe::Just(m) => self.edge_to(words, m, event::FALLTHROUGH),
             Maybe::Nothing => self,
         }
     }
@@ -72,171 +74,136 @@ impl Cursor {
     // The last part of a mapping: Min.
     pub(crate) fn map_min(
         self,
-        heads: &mut [u64; 1040],
-        acts: &mut [u64; 1040],
-        edges: &mut [u64; 2048],
+        words: &mut [u64; 4128],
         n: u16,
         mode: u16,
         code: u32,
-        step: Step,
+        p: Packed,
     ) -> Cursor
         requires { ⌜ mode < 16 ⌝ }
-        requires { ⌜ Sized (now heads) (now acts) (now edges) ⌝ }
-        ensures { λ r. ⌜ Sized (now (heads .exit)) (now (acts .exit)) (now (edges .exit)) ⌝ }
-        ensures { λ r. ⌜ Leads (outcome (now (heads .entry)) (now (acts .entry)) (now (edges .entry)) self) (g.mapLast mode (v.Min n) (eventAt code) (stepOf step)) (outcome (now (heads .exit)) (now (acts .exit)) (now (edges .exit)) r) ⌝ }
+        requires { ⌜ length (now words) ≡ 4128 ⌝ }
+        ensures { λ r. ⌜ length (now (words .exit)) ≡ 4128 ⌝ }
+        ensures { λ r. ⌜ ((s : v.Step) → packedOf p ≡ record { mode = mode; action = g.Holds s } → Leads (outcome (now (words .entry)) self) (g.mapLast mode (v.Min n) (eventAt code) s) (outcome (now (words .exit)) r)) ⌝ }
     {
-        let a = self.add_holder(heads, acts, mode, step);
+        let a = self.add_node(words, p);
         let c = a.cursor;
         let e = a.node;
-        let b = c.add_empty(heads, acts, mode);
+        let b = c.add_empty(words, mode);
         let d = b.cursor;
         let m = b.node;
-        d.add_edge(edges, m, e, event::FALLTHROUGH)
-            .add_edge(edges, m, m, code)
-            .add_min(heads, acts, edges, n, mode, code, e)
-            .edge_to(edges, m, code)
+        d.add_edge(words, m, e, event::FALLTHROUGH)
+            .add_edge(words, m, m, code)
+            .add_min(words, n, mode, code, e, m)
             .go(e)
     }
 
     // The last part of a mapping: Max.
     pub(crate) fn map_max(
         self,
-        heads: &mut [u64; 1040],
-        acts: &mut [u64; 1040],
-        edges: &mut [u64; 2048],
+        words: &mut [u64; 4128],
         n: u16,
         mode: u16,
         code: u32,
-        step: Step,
+        p: Packed,
     ) -> Cursor
         requires { ⌜ mode < 16 ⌝ }
-        requires { ⌜ Sized (now heads) (now acts) (now edges) ⌝ }
-        ensures { λ r. ⌜ Sized (now (heads .exit)) (now (acts .exit)) (now (edges .exit)) ⌝ }
-        ensures { λ r. ⌜ Leads (outcome (now (heads .entry)) (now (acts .entry)) (now (edges .entry)) self) (g.mapLast mode (v.Max n) (eventAt code) (stepOf step)) (outcome (now (heads .exit)) (now (acts .exit)) (now (edges .exit)) r) ⌝ }
+        requires { ⌜ length (now words) ≡ 4128 ⌝ }
+        ensures { λ r. ⌜ length (now (words .exit)) ≡ 4128 ⌝ }
+        ensures { λ r. ⌜ ((s : v.Step) → packedOf p ≡ record { mode = mode; action = g.Holds s } → Leads (outcome (now (words .entry)) self) (g.mapLast mode (v.Max n) (eventAt code) s) (outcome (now (words .exit)) r)) ⌝ }
     {
-        let a = self.add_holder(heads, acts, mode, step);
+        let a = self.add_node(words, p);
         let c = a.cursor;
         let e = a.node;
-        c.edge_to(edges, e, event::FALLTHROUGH)
-            .add_max(heads, acts, edges, n, mode, code, e)
+        c.edge_to(words, e, event::FALLTHROUGH)
+            .add_max(words, n, mode, code, e)
             .go(e)
     }
 
-    // The last part of a mapping: Once.
-    pub(crate) fn map_once(
-        self,
-        heads: &mut [u64; 1040],
-        acts: &mut [u64; 1040],
-        edges: &mut [u64; 2048],
-        mode: u16,
-        code: u32,
-        step: Step,
-    ) -> Cursor
-        requires { ⌜ mode < 16 ⌝ }
-        requires { ⌜ Sized (now heads) (now acts) (now edges) ⌝ }
-        ensures { λ r. ⌜ Sized (now (heads .exit)) (now (acts .exit)) (now (edges .exit)) ⌝ }
-        ensures { λ r. ⌜ Leads (outcome (now (heads .entry)) (now (acts .entry)) (now (edges .entry)) self) (g.mapLast mode v.Once (eventAt code) (stepOf step)) (outcome (now (heads .exit)) (now (acts .exit)) (now (edges .exit)) r) ⌝ }
-    {
-        let p = step.pack(mode);
-        self.add_simple_step(heads, acts, edges, code, p)
-    }
-
+    // The last part of a mapping; `p` has the step.
     pub(crate) fn map_last(
         self,
-        heads: &mut [u64; 1040],
-        acts: &mut [u64; 1040],
-        edges: &mut [u64; 2048],
+        words: &mut [u64; 4128],
         repeat: EdgeRepeat,
         mode: u16,
         code: u32,
-        step: Step,
+        p: Packed,
     ) -> Cursor
         requires { ⌜ mode < 16 ⌝ }
-        requires { ⌜ Sized (now heads) (now acts) (now edges) ⌝ }
-        ensures { λ r. ⌜ Sized (now (heads .exit)) (now (acts .exit)) (now (edges .exit)) ⌝ }
-        ensures { λ r. ⌜ Leads (outcome (now (heads .entry)) (now (acts .entry)) (now (edges .entry)) self) (g.mapLast mode (repeatOf repeat) (eventAt code) (stepOf step)) (outcome (now (heads .exit)) (now (acts .exit)) (now (edges .exit)) r) ⌝ }
+        requires { ⌜ length (now words) ≡ 4128 ⌝ }
+        ensures { λ r. ⌜ length (now (words .exit)) ≡ 4128 ⌝ }
+        ensures { λ r. ⌜ ((s : v.Step) → packedOf p ≡ record { mode = mode; action = g.Holds s } → Leads (outcome (now (words .entry)) self) (g.mapLast mode (repeatOf repeat) (eventAt code) s) (outcome (now (words .exit)) r)) ⌝ }
     {
         match repeat {
-            EdgeRepeat::Once => self.map_once(heads, acts, edges, mode, code, step),
-            EdgeRepeat::Min(n) => self.map_min(heads, acts, edges, n, mode, code, step),
-            EdgeRepeat::Max(n) => self.map_max(heads, acts, edges, n, mode, code, step),
+            EdgeRepeat::Once => self.add_simple_step(words, code, p),
+            EdgeRepeat::Min(n) => self.map_min(words, n, mode, code, p),
+            EdgeRepeat::Max(n) => self.map_max(words, n, mode, code, p),
         }
     }
 
     // The last part of a mapping, and the Fallthrough edge of a step that names a mode.
     pub(crate) fn map_end(
         self,
-        heads: &mut [u64; 1040],
-        acts: &mut [u64; 1040],
-        edges: &mut [u64; 2048],
+        words: &mut [u64; 4128],
         part: EdgePathPart,
         mode: u16,
         step: Step,
     ) -> Cursor
         requires { ⌜ mode < 16 ⌝ }
-        requires { ⌜ Sized (now heads) (now acts) (now edges) ⌝ }
-        ensures { λ r. ⌜ Sized (now (heads .exit)) (now (acts .exit)) (now (edges .exit)) ⌝ }
-        ensures { λ r. ⌜ Leads (outcome (now (heads .entry)) (now (acts .entry)) (now (edges .entry)) self) (g.mapPath mode (partOf part ∷ []) (stepOf step)) (outcome (now (heads .exit)) (now (acts .exit)) (now (edges .exit)) r) ⌝ }
+        requires { ⌜ length (now words) ≡ 4128 ⌝ }
+        ensures { λ r. ⌜ length (now (words .exit)) ≡ 4128 ⌝ }
+        ensures { λ r. ⌜ Leads (outcome (now (words .entry)) self) (g.mapPath mode (partOf part ∷ []) (stepOf step)) (outcome (now (words .exit)) r) ⌝ }
     {
         let ev = part.event;
         let repeat = part.repeat;
         let fall = step.fallthrough;
         let code = ev.code();
-        self.map_last(heads, acts, edges, repeat, mode, code, step)
-            .map_fall(edges, fall)
+        let p = step.pack(mode);
+        self.map_last(words, repeat, mode, code, p)
+            .map_fall(words, fall)
     }
 
     // A whole path. An empty one changes nothing.
     pub(crate) fn map_path(
         self,
-        heads: &mut [u64; 1040],
-        acts: &mut [u64; 1040],
-        edges: &mut [u64; 2048],
+        words: &mut [u64; 4128],
         mode: u16,
         path: EdgePath,
         step: Step,
     ) -> Cursor
         requires { ⌜ mode < 16 ⌝ }
-        requires { ⌜ Sized (now heads) (now acts) (now edges) ⌝ }
-        ensures { λ r. ⌜ Sized (now (heads .exit)) (now (acts .exit)) (now (edges .exit)) ⌝ }
-        ensures { λ r. ⌜ Leads (outcome (now (heads .entry)) (now (acts .entry)) (now (edges .entry)) self) (g.mapPath mode (pathOf path) (stepOf step)) (outcome (now (heads .exit)) (now (acts .exit)) (now (edges .exit)) r) ⌝ }
+        requires { ⌜ length (now words) ≡ 4128 ⌝ }
+        ensures { λ r. ⌜ length (now (words .exit)) ≡ 4128 ⌝ }
+        ensures { λ r. ⌜ Leads (outcome (now (words .entry)) self) (g.mapPath mode (pathOf path) (stepOf step)) (outcome (now (words .exit)) r) ⌝ }
     {
         let n = path.size();
         if n == 0 {
             return self;
         }
-        let mut c = self;
-        let mut i = 0usize;
-        while i + 1 < n {
-            let p = path.parts[i];
-            c = c.add_intermediate(heads, acts, edges, p, mode);
-            i = i + 1;
-        }
-        let p = path.parts[i];
-        c.map_end(heads, acts, edges, p, mode, step)
+        let last = n - 1;
+        let p = path.parts[last];
+        self.add_intermediates(words, path, last, mode)
+            .map_end(words, p, mode, step)
     }
 }
 
 // A mapping in place. Accepted, the words and the counts are those of the graph with the mapping; refused, the number
 // counts, and the words may hold half of the work.
 pub fn add_mapping_in(
-    heads: &mut [u64; 1040],
-    acts: &mut [u64; 1040],
-    edges: &mut [u64; 2048],
+    words: &mut [u64; 4128],
     counts: Counts,
     mode: u16,
     path: EdgePath,
     step: Step,
 ) -> Placed
-    requires { ⌜ Sized (now heads) (now acts) (now edges) ⌝ }
-    ensures { λ r. ⌜ Sized (now (heads .exit)) (now (acts .exit)) (now (edges .exit)) ⌝ }
-    ensures { λ r. ⌜ resultBy (r .answer) (graphIn (now (heads .exit)) (now (acts .exit)) (now (edges .exit)) (r .counts)) ≡ b.unless (v.mapValid mode (wholePath path) (wholeStep step)) 1 (g.addMapping mode (wholePath path) (wholeStep step) (graphIn (now (heads .entry)) (now (acts .entry)) (now (edges .entry)) counts)) ⌝ }
+    requires { ⌜ length (now words) ≡ 4128 ⌝ }
+    ensures { λ r. ⌜ length (now (words .exit)) ≡ 4128 ⌝ }
+    ensures { λ r. ⌜ resultBy (r .answer) (graphIn (now (words .exit)) (r .counts)) ≡ b.unless (v.mapValid mode (wholePath path) (wholeStep step)) 1 (g.addMapping mode (wholePath path) (wholeStep step) (graphIn (now (words .entry)) counts)) ⌝ }
 {
     if mode < 16 {
         if path.valid() {
             if step.valid() {
                 let c = Cursor::start(counts, mode);
-                return c.map_path(heads, acts, edges, mode, path, step).placed();
+                return c.map_path(words, mode, path, step).placed();
             }
         }
     }
@@ -251,19 +218,15 @@ impl Graph {
     pub fn add_mapping(self, mode: u16, path: EdgePath, step: Step) -> Added
         ensures { λ r. ⌜ addedOf r ≡ settled (graphOf self) (b.unless (v.mapValid mode (wholePath path) (wholeStep step)) 1 (g.addMapping mode (wholePath path) (wholeStep step) (graphOf self))) ⌝ }
     {
-        let mut heads = self.heads;
-        let mut acts = self.acts;
-        let mut edges = self.edges;
+        let mut words = self.words;
         let k = self.counts;
-        let r = add_mapping_in(&mut heads, &mut acts, &mut edges, k, mode, path, step);
+        let r = add_mapping_in(&mut words, k, mode, path, step);
         let answer = r.answer;
         let counts = r.counts;
         match answer {
             Answer::Accepted => Added {
                 graph: Graph {
-                    heads: heads,
-                    acts: acts,
-                    edges: edges,
+                    words: words,
                     counts: counts,
                 },
                 answer: Answer::Accepted,

@@ -16,7 +16,7 @@ use Rattle.rules.specs.Tables.{Tables, ModeEntry, noEntry, modeEntry}
 use Rattle.rules.specs.KeyLoop.{Tracker, Shared, State, at, pushAll, giveAll, gotoMode, unmapped, stepTo, step, orDefault, setMark}
 use Rattle.rules.specs.Graph.{Graph}
 use Rattle.rules.specs.Calls.{graphNavigator}
-use Rattle.keygraph.specs.View.{fourOf, optOf}
+use Rattle.keyparts.specs.View.{fourOf, optOf}
 use Rattle.keymachine.specs.Views.{outcome, blocks, entryOf, modesOf, shared, giveGoto}
 use Rattle.keymachine.proofs.Lists.{length-blocks, blocks-word, getD-mapped}
 

@@ -13,7 +13,7 @@ use borrow.Author.Tests.{ltb-true, leb-true, le-leb, lt-leb}
 use Rattle.rules.specs.Basics.{every, present}
 use Rattle.rules.specs.Values.{isMode, isSequence, isStatus}
 use Rattle.rules.specs.Tables.{ClassEntry, ModeEntry, Rule, Tables, classValid, modeValid, ruleValid, tablesValid, noEntry}
-use Rattle.keygraph.specs.View.{fourOf, optOf, maybeOf, fit, classesOf, classAt}
+use Rattle.keyparts.specs.View.{fourOf, optOf, maybeOf, fit, classesOf, classAt}
 use Rattle.keymachine.specs.declared.tables.ModeEntry as entry
 use Rattle.keymachine.specs.declared.tables.Tables as declared
 use Rattle.keymachine.specs.declared.rule.Rule as rule
@@ -21,25 +21,6 @@ use Rattle.keymachine.specs.Views.{blocks, ruleOf, rulesOf, ruleBy, clas
 use Rattle.keymachine.proofs.Lists.{map-append, map-take, getD-mapped, length-blocks, getD-blocks, blocks-set}
 
 -- ---- words
-
-pub four-is : (a b c d : ℕ) → a < 65536 → b < 65536 → c < 65536 → d < 65536 → fourOf (a + 65536 * (b + 65536 * (c + 65536 * d))) ≡ a ∷ b ∷ c ∷ d ∷ []
-four-is a b c d ha hb hc hd =
-    let x : (a + 65536 * (b + 65536 * (c + 65536 * d))) % 65536 ≡ a = omega arith in
-    let q : (a + 65536 * (b + 65536 * (c + 65536 * d))) / 65536 ≡ b + 65536 * (c + 65536 * d) = omega arith in
-    let y : (b + 65536 * (c + 65536 * d)) % 65536 ≡ b = omega arith in
-    let r : (b + 65536 * (c + 65536 * d)) / 65536 ≡ c + 65536 * d = omega arith in
-    let z : (c + 65536 * d) % 65536 ≡ c = omega arith in
-    let s : (c + 65536 * d) / 65536 ≡ d = omega arith in
-    let w : d % 65536 ≡ d = omega arith in
-    rw (x, q, y, r, z, s, w)
-
-pub four-eta : (xs : List ℕ) → length xs ≡ 4 → getD xs 0 0 ∷ getD xs 1 0 ∷ getD xs 2 0 ∷ getD xs 3 0 ∷ [] ≡ xs
-four-eta [] e = absurd (omega arith)
-four-eta (a ∷ []) e = absurd (omega arith)
-four-eta (a ∷ b ∷ []) e = absurd (omega arith)
-four-eta (a ∷ b ∷ c ∷ []) e = absurd (omega arith)
-four-eta (a ∷ b ∷ c ∷ d ∷ []) e = refl
-four-eta (a ∷ b ∷ c ∷ d ∷ x ∷ xs) e = absurd (omega arith)
 
 pub opt-is : (n : ℕ) → n < 65536 → optOf (n + 1) ≡ some n
 unfolding optOf

@@ -12,7 +12,8 @@ use Rattle.rules.specs.Tables as t
 use Rattle.rules.specs.KeyLoop as key
 use Rattle.rules.specs.Calls as c
 use Rattle.rules.specs.Graph as g
-use Rattle.keygraph.specs.View.{fourOf, optOf, classesOf, maybeOf, stepOf, fit, graphOf}
+use Rattle.keyparts.specs.View.{fourOf, optOf, classesOf, maybeOf, stepOf, fit}
+use Rattle.keygraph.specs.View.{graphOf}
 use Rattle.keymachine.specs.declared.context.Context.{Context}
 use Rattle.keymachine.specs.declared.context.Override.{Override}
 use Rattle.keymachine.specs.declared.context.Override.the-variants.{Nothing, By}

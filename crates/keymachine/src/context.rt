@@ -3,9 +3,10 @@ use keygraph::event::EdgeEvent;
 ghost use mathlib.Core.Path.{_≡_};
 ghost use Prim.Native.Nat.{_+_, _-_, _*_, _≤_, min};
 ghost use Rattle.rules.specs.Values as v;
-ghost use Rattle.keygraph.specs.View.{eventOf};
+ghost use Rattle.keyparts.specs.View.{eventOf};
 ghost use Rattle.keymachine.specs.Views.{contextOf, chosenOf};
 
+#[repr(C)]
 pub struct Context {
     pub count: u16,
     pub mark: u16,

@@ -21,11 +21,13 @@ ghost use Prim.Native.Nat.{_≤_};
 ghost use lib.ListN.{length};
 ghost use Rattle.rules.specs.Tables.{noTables};
 ghost use Rattle.rules.specs.Calls.{graphKind, call, fresh, mode-call, Open, Map, Prefix, Press, Pop, Repeats, Reset, FindFits, HintFits};
-ghost use Rattle.keygraph.specs.View.{wholePath, wholeStep, chosenOf, foundOf, answerOf};
+ghost use Rattle.keyparts.specs.View.{wholePath, wholeStep, chosenOf, foundOf};
+ghost use Rattle.keygraph.specs.View.{answerOf};
 ghost use Rattle.keymachine.specs.Views.{trackersOf, broke, overOf, wholeTables, machineOf, pressOf, popOf};
 
 // The map (graph and tables) and the live state. The queue, the sequences and the trail are words; `trailed` keys are on
 // the trail.
+#[repr(C)]
 pub struct ModalMachine {
     pub graph: Graph,
     pub tables: TableWords,
@@ -170,10 +172,8 @@ impl ModalMachine {
         let counts = self.graph.counts;
         let sizes = self.tables.sizes;
         let s = self.state;
-        let r = key::input_key(
-            &self.graph.edges,
-            &self.graph.heads,
-            &self.graph.acts,
+        let r = key::input_on(
+            &self.graph.words,
             counts,
             &self.tables.classes,
             &self.tables.modes,

@@ -17,7 +17,7 @@ ghost use Rattle.rules.specs.Tables as t;
 ghost use Rattle.rules.specs.KeyLoop as key;
 ghost use Rattle.rules.specs.Graph as g;
 ghost use Rattle.rules.specs.Calls.{graphNavigator};
-ghost use Rattle.keygraph.specs.View.{maybeOf, fourOf, optOf};
+ghost use Rattle.keyparts.specs.View.{maybeOf, fourOf, optOf};
 ghost use Rattle.keymachine.specs.Views.{outcome, rulesOf, modesOf, entryBy, actionsBy, tables, sharedOf, stateOf, giveGoto};
 
 // The number of a refusal, or 0 and the state that was come to.

@@ -2,6 +2,7 @@
 use crate::context::Context;
 
 // The place is a node; `queued` words of the queue are waiting pairs.
+#[repr(C)]
 pub struct State {
     pub place: u16,
     pub mode: u16,
@@ -10,6 +11,7 @@ pub struct State {
 }
 
 // How many words of the class table, how many entries of the mode table and how many rules count.
+#[repr(C)]
 pub struct Sizes {
     pub classes: u16,
     pub modes: u16,

@@ -18,7 +18,7 @@ ghost use Rattle.rules.specs.Tables as t;
 ghost use Rattle.rules.specs.KeyLoop as key;
 ghost use Rattle.rules.specs.Graph as g;
 ghost use Rattle.rules.specs.Calls.{graphNavigator};
-ghost use Rattle.keygraph.specs.View.{maybeOf, stepOf, nodesOf, graphBy};
+ghost use Rattle.keyparts.specs.View.{maybeOf, stepOf, nodesOf, graphBy};
 ghost use Rattle.keymachine.specs.Views.{outcome, rulesOf, modesOf, tables, sharedOf, stateOf};
 
 // The list of the node's mode is given, and its next mode entered; without one, the entered mode anew.

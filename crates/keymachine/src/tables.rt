@@ -3,6 +3,8 @@
 use crate::rule::Rule;
 use crate::state::Sizes;
 use keygraph::class;
+use keygraph::number;
+use keygraph::step;
 use keygraph::step::Maybe;
 ghost use mathlib.Core.Path.{_≡_};
 ghost use mathlib.Core.Bool.{true, false};
@@ -10,10 +12,9 @@ ghost use mathlib.Core.List.{_∷_, [], map};
 ghost use Prim.Native.Nat.{_≤_, _<_};
 ghost use lib.Dec.{leb};
 ghost use lib.ListN.{length, take};
-ghost use Rattle.rules.specs.Basics.{every, present};
-ghost use Rattle.rules.specs.Values.{isMode};
+ghost use Rattle.rules.specs.Basics.{every};
 ghost use Rattle.rules.specs.Tables as t;
-ghost use Rattle.keygraph.specs.View.{maybeOf, fourOf, optOf, classesOf};
+ghost use Rattle.keyparts.specs.View.{maybeOf, fourOf, optOf, classesOf};
 ghost use Rattle.keymachine.specs.Views.{actionsBy, wholeActions, entryBy, entryOf, wholeEntry, classBy, ruleBy, modesOf, rulesOf, wholeTables, wordsOf};
 
 pub struct ClassEntry {
@@ -44,6 +45,7 @@ pub struct Tables {
 }
 
 // Tables in words, as a machine keeps them.
+#[repr(C)]
 pub struct TableWords {
     pub classes: [u64; 16],
     pub modes: [u64; 48],
@@ -102,15 +104,9 @@ impl Actions {
     fn pack(self) -> u64
         ensures { λ r. ⌜ fourOf r ≡ self .items ⌝ }
     {
-        word(self.items[0], self.items[1], self.items[2], self.items[3])
+        let items = self.items;
+        number::four_word(items)
     }
-}
-
-// Four actions in a word, the first in the lowest bits.
-fn word(a: u16, b: u16, c: u16, d: u16) -> u64
-    ensures { λ r. ⌜ fourOf r ≡ a ∷ b ∷ c ∷ d ∷ [] ⌝ }
-{
-    (a as u64) + 65536 * ((b as u64) + 65536 * ((c as u64) + 65536 * (d as u64)))
 }
 
 // 0 is none, and else one more than the number.
@@ -123,15 +119,6 @@ fn pack_maybe(m: Maybe) -> u64
     }
 }
 
-fn mode_valid(m: Maybe) -> bool
-    ensures { λ r. ⌜ r ≡ present isMode (maybeOf m) ⌝ }
-{
-    match m {
-        Maybe::Nothing => return true,
-        Maybe::Just(n) => return n < 16,
-    }
-}
-
 impl ModeEntry {
     pub fn valid(self) -> bool
         ensures { λ r. ⌜ r ≡ t.modeValid (wholeEntry self) ⌝ }
@@ -141,7 +128,7 @@ impl ModeEntry {
         let next = self.next;
         if enter.valid() {
             if unmapped.valid() {
-                return mode_valid(next);
+                return step::mode_valid(next);
             }
         }
         false

@@ -13,7 +13,8 @@ ghost use mathlib.Core.List.{List};
 ghost use Rattle.rules.specs.Values as v;
 ghost use Rattle.rules.specs.Graph as g;
 ghost use Rattle.rules.specs.Calls as c;
-ghost use Rattle.keygraph.specs.View.{nodeOf, stepOf, edgesOf, classesOf, graphBy, graphIn};
+ghost use Rattle.keyparts.specs.View.{nodeOf, stepOf, edgesOf, classesOf, graphBy};
+ghost use Rattle.keygraph.specs.View.{graphFrom};
 ghost use Rattle.keymachine.specs.Views.{resultBy, Turns};
 
 // The step of `RunStep` and `RetryAfter` stands beside the result, since an enum here holds no array.
@@ -76,7 +77,7 @@ pub(crate) fn turn<'a>(
     s: State,
     key: u16,
 ) -> Turned
-    ensures { λ r. ⌜ Turns (c.turnBy (graphIn (now (heads .entry)) (now (acts .entry)) (now (edges .entry)) counts) (s .place) (g.followEdge (classesOf (now (classes .entry)) entries) (graphIn (now (heads .entry)) (now (acts .entry)) (now (edges .entry)) counts) (s .place) key)) key s r ⌝ }
+    ensures { λ r. ⌜ Turns (c.turnBy (graphFrom (now (heads .entry)) (now (acts .entry)) (now (edges .entry)) counts) (s .place) (g.followEdge (classesOf (now (classes .entry)) entries) (graphFrom (now (heads .entry)) (now (acts .entry)) (now (edges .entry)) counts) (s .place) key)) key s r ⌝ }
 {
     let f = follow::follow_edge(edges, counts.edges, classes, entries, s.place, key);
     match f {

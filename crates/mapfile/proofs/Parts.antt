@@ -12,7 +12,7 @@ use Rattle.rules.specs.Basics.{Result}
 use Rattle.rules.specs.Values.{Event, Key, Class, Any, Fallthrough, Repeat, Once, Min, Max, isRepeat, isClass}
 use Rattle.rules.specs.Numbers.{number}
 use Rattle.rules.specs.MapFile.{Reader, give, such, upTo, times, optional, optionalMark, readOptionalMode, repeatBy, eventBy}
-use Rattle.keygraph.specs.View.{fit}
+use Rattle.keyparts.specs.View.{fit}
 use Rattle.mapfile.specs.View.{Reads, readMark, readRepeat, readEvent}
 use Rattle.mapfile.proofs.Reading.{then, gives, gives-as, Left, left-more}
 

@@ -9,21 +9,13 @@ use lib.ListN.{length, take, drop, getD, set}
 use Rattle.rules.specs.Basics.{Result}
 use Rattle.rules.specs.Tables.{ModeEntry, Rule}
 use Rattle.rules.specs.MapFile.{Reader, give, upTo, optional, readOptionalMode}
-use Rattle.keygraph.specs.View.{fit, fourOf, optOf}
+use Rattle.keyparts.specs.View.{fit, fourOf, optOf}
 use Rattle.keymachine.specs.Views.{ruleOf, entryOf, blocks}
 use Rattle.mapfile.specs.View.{Reads}
 use Rattle.mapfile.proofs.Reading.{Left, then, gives}
 use Rattle.mapfile.proofs.Parts.{fit-take, stored}
 
 -- ---- words
-
-pub four-list : (xs : List ℕ) → length xs ≡ 4 → getD xs 0 0 ∷ getD xs 1 0 ∷ getD xs 2 0 ∷ getD xs 3 0 ∷ [] ≡ xs
-four-list [] h = absurd (omega arith)
-four-list (a ∷ []) h = absurd (omega arith)
-four-list (a ∷ b ∷ []) h = absurd (omega arith)
-four-list (a ∷ b ∷ c ∷ []) h = absurd (omega arith)
-four-list (a ∷ b ∷ c ∷ d ∷ []) h = refl
-four-list (a ∷ b ∷ c ∷ d ∷ e ∷ xs) h = absurd (omega arith)
 
 module _ (mode low high sequence status : ℕ) (hm : mode < 16) (hl : low < 65536) (hh : high < 65536) (hs : sequence < 8) (ht : status < 8) where
   abbrev w : ℕ

@@ -65,7 +65,7 @@ boundOf s r m = resultBy (r .answer) (m, drop (r .at) s)
 
 -- the fresh machine with the tables, over the graph that was read
 abbrev pub mapOf : MapRead → Machine graphKind
-mapOf r = machineBy (graphIn (r .heads) (r .acts) (r .edges) (r .counts)) (fresh graphKind (tablesOf (r .sizes) (r .classes) (r .modes) (r .rules)) .state)
+mapOf r = machineBy (graphIn (r .words) (r .counts)) (fresh graphKind (tablesOf (r .sizes) (r .classes) (r .modes) (r .rules)) .state)
 
 -- ---- parts of the rules' readers, under a name
 

@@ -11,12 +11,12 @@ use keygraph::step::Step;
 ghost use mathlib.Core.Path.{_≡_};
 ghost use Prim.Native.Nat.{ℕ};
 ghost use mathlib.Core.List.{List};
-ghost use lib.ListN.{drop};
+ghost use lib.ListN.{length, drop};
 ghost use Rattle.rules.specs.KeyLoop.{State};
 ghost use Rattle.rules.specs.Calls.{graphKind, map-call, prefix-call};
 ghost use Rattle.rules.specs.MapFile.{lifted, readBinding, readBindings};
-ghost use Rattle.keygraph.specs.View.{graphIn, wholePath, wholeStep, chosenOf};
-ghost use Rattle.keygraph.specs.Making.{Sized};
+ghost use Rattle.keyparts.specs.View.{wholePath, wholeStep, chosenOf};
+ghost use Rattle.keygraph.specs.View.{graphIn};
 ghost use Rattle.mapfile.specs.View.{cursorOf, Comes, machineBy, boundOf};
 
 // What a binding leaves beside the graph's words, and the place after it.
@@ -27,18 +27,16 @@ pub struct Bound {
 }
 
 fn bind_mapping(
-    heads: &mut [u64; 1040],
-    acts: &mut [u64; 1040],
-    edges: &mut [u64; 2048],
+    words: &mut [u64; 4128],
     counts: Counts,
     mode: u16,
     path: EdgePath,
     step: Step,
     from: Cursor,
 ) -> Bound
-    requires { ⌜ Sized (now heads) (now acts) (now edges) ⌝ }
-    ensures { λ r. ⌜ Sized (now (heads .exit)) (now (acts .exit)) (now (edges .exit)) ⌝ }
-    ensures { λ r. ⌜ ((s : List ℕ) (x : State ℕ) → Comes (cursorOf s from) (lifted (map-call graphKind mode (wholePath path) (wholeStep step) (machineBy (graphIn (now (heads .entry)) (now (acts .entry)) (now (edges .entry)) counts) x))) (boundOf s r (machineBy (graphIn (now (heads .exit)) (now (acts .exit)) (now (edges .exit)) (r .counts)) x))) ⌝ }
+    requires { ⌜ length (now words) ≡ 4128 ⌝ }
+    ensures { λ r. ⌜ length (now (words .exit)) ≡ 4128 ⌝ }
+    ensures { λ r. ⌜ ((s : List ℕ) (x : State ℕ) → Comes (cursorOf s from) (lifted (map-call graphKind mode (wholePath path) (wholeStep step) (machineBy (graphIn (now (words .entry)) counts) x))) (boundOf s r (machineBy (graphIn (now (words .exit)) (r .counts)) x))) ⌝ }
 {
     if from.refusal != 0 {
         return Bound {
@@ -47,7 +45,7 @@ fn bind_mapping(
             answer: Answer::Refused(from.refusal),
         };
     }
-    let r = mapping::add_mapping_in(heads, acts, edges, counts, mode, path, step);
+    let r = mapping::add_mapping_in(words, counts, mode, path, step);
     let k = r.counts;
     let answer = r.answer;
     Bound {
@@ -59,9 +57,7 @@ fn bind_mapping(
 
 // `chosen`: the prefix has the step.
 fn bind_prefix(
-    heads: &mut [u64; 1040],
-    acts: &mut [u64; 1040],
-    edges: &mut [u64; 2048],
+    words: &mut [u64; 4128],
     counts: Counts,
     mode: u16,
     path: EdgePath,
@@ -69,9 +65,9 @@ fn bind_prefix(
     step: Step,
     from: Cursor,
 ) -> Bound
-    requires { ⌜ Sized (now heads) (now acts) (now edges) ⌝ }
-    ensures { λ r. ⌜ Sized (now (heads .exit)) (now (acts .exit)) (now (edges .exit)) ⌝ }
-    ensures { λ r. ⌜ ((s : List ℕ) (x : State ℕ) → Comes (cursorOf s from) (lifted (prefix-call graphKind mode (wholePath path) (chosenOf chosen (wholeStep step)) (machineBy (graphIn (now (heads .entry)) (now (acts .entry)) (now (edges .entry)) counts) x))) (boundOf s r (machineBy (graphIn (now (heads .exit)) (now (acts .exit)) (now (edges .exit)) (r .counts)) x))) ⌝ }
+    requires { ⌜ length (now words) ≡ 4128 ⌝ }
+    ensures { λ r. ⌜ length (now (words .exit)) ≡ 4128 ⌝ }
+    ensures { λ r. ⌜ ((s : List ℕ) (x : State ℕ) → Comes (cursorOf s from) (lifted (prefix-call graphKind mode (wholePath path) (chosenOf chosen (wholeStep step)) (machineBy (graphIn (now (words .entry)) counts) x))) (boundOf s r (machineBy (graphIn (now (words .exit)) (r .counts)) x))) ⌝ }
 {
     if from.refusal != 0 {
         return Bound {
@@ -80,7 +76,7 @@ fn bind_prefix(
             answer: Answer::Refused(from.refusal),
         };
     }
-    let r = prefix::add_prefix_in(heads, acts, edges, counts, mode, path, chosen, step);
+    let r = prefix::add_prefix_in(words, counts, mode, path, chosen, step);
     let k = r.counts;
     let answer = r.answer;
     Bound {
@@ -91,17 +87,10 @@ fn bind_prefix(
 }
 
 // Kind, mode, path, and the step for kinds 0 and 2.
-pub(crate) fn read_binding(
-    s: &[u8],
-    heads: &mut [u64; 1040],
-    acts: &mut [u64; 1040],
-    edges: &mut [u64; 2048],
-    counts: Counts,
-    at: usize,
-) -> Bound
-    requires { ⌜ Sized (now heads) (now acts) (now edges) ⌝ }
-    ensures { λ r. ⌜ Sized (now (heads .exit)) (now (acts .exit)) (now (edges .exit)) ⌝ }
-    ensures { λ r. ⌜ ((x : State ℕ) → boundOf (now (s .entry)) r (machineBy (graphIn (now (heads .exit)) (now (acts .exit)) (now (edges .exit)) (r .counts)) x) ≡ readBinding (machineBy (graphIn (now (heads .entry)) (now (acts .entry)) (now (edges .entry)) counts) x) (drop at (now (s .entry)))) ⌝ }
+pub(crate) fn read_binding(s: &[u8], words: &mut [u64; 4128], counts: Counts, at: usize) -> Bound
+    requires { ⌜ length (now words) ≡ 4128 ⌝ }
+    ensures { λ r. ⌜ length (now (words .exit)) ≡ 4128 ⌝ }
+    ensures { λ r. ⌜ ((x : State ℕ) → boundOf (now (s .entry)) r (machineBy (graphIn (now (words .exit)) (r .counts)) x) ≡ readBinding (machineBy (graphIn (now (words .entry)) counts) x) (drop at (now (s .entry)))) ⌝ }
 {
     let from = Cursor { at: at, refusal: 0 };
     let kind = from.up_to(s, 2);
@@ -113,36 +102,34 @@ pub(crate) fn read_binding(
     let path = parts.path;
     if kind.value == 1 {
         let none = Step::default();
-        return bind_prefix(heads, acts, edges, counts, mode.value, path, false, none, c);
+        return bind_prefix(words, counts, mode.value, path, false, none, c);
     }
     let read = step::read_step(s, c);
     let d = read.cursor;
     let does = read.step;
     if kind.value == 0 {
-        return bind_mapping(heads, acts, edges, counts, mode.value, path, does, d);
+        return bind_mapping(words, counts, mode.value, path, does, d);
     }
-    bind_prefix(heads, acts, edges, counts, mode.value, path, true, does, d)
+    bind_prefix(words, counts, mode.value, path, true, does, d)
 }
 
 // `n` bindings, up to the first refusal.
 pub(crate) fn read_bindings(
     s: &[u8],
-    heads: &mut [u64; 1040],
-    acts: &mut [u64; 1040],
-    edges: &mut [u64; 2048],
+    words: &mut [u64; 4128],
     counts: Counts,
     n: u16,
     from: usize,
 ) -> Bound
-    requires { ⌜ Sized (now heads) (now acts) (now edges) ⌝ }
-    ensures { λ r. ⌜ Sized (now (heads .exit)) (now (acts .exit)) (now (edges .exit)) ⌝ }
-    ensures { λ r. ⌜ ((x : State ℕ) → boundOf (now (s .entry)) r (machineBy (graphIn (now (heads .exit)) (now (acts .exit)) (now (edges .exit)) (r .counts)) x) ≡ readBindings n (machineBy (graphIn (now (heads .entry)) (now (acts .entry)) (now (edges .entry)) counts) x) (drop from (now (s .entry)))) ⌝ }
+    requires { ⌜ length (now words) ≡ 4128 ⌝ }
+    ensures { λ r. ⌜ length (now (words .exit)) ≡ 4128 ⌝ }
+    ensures { λ r. ⌜ ((x : State ℕ) → boundOf (now (s .entry)) r (machineBy (graphIn (now (words .exit)) (r .counts)) x) ≡ readBindings n (machineBy (graphIn (now (words .entry)) counts) x) (drop from (now (s .entry)))) ⌝ }
 {
     let mut k = counts;
     let mut at = from;
     let mut left = n;
     while 0 < left {
-        let r = read_binding(s, heads, acts, edges, k, at);
+        let r = read_binding(s, words, k, at);
         let answer = r.answer;
         match answer {
             Answer::Refused(_) => return r,

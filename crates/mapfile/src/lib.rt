@@ -1,14 +1,14 @@
 // Map files and the run on them, for the C firmware.
 mod bind;
 pub mod cursor;
-pub mod keys;
-pub mod list;
+mod keys;
+mod list;
 pub mod map;
 pub mod number;
 mod pairs;
-pub mod part;
+mod part;
 mod play;
 pub mod run;
-pub mod step;
-pub mod tables;
+mod step;
+mod tables;
 pub mod write;

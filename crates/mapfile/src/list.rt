@@ -7,7 +7,7 @@ ghost use lib.ListN.{length};
 ghost use Rattle.rules.specs.MapFile.{readActions, readOptionalMode, optionalMark};
 ghost use Rattle.rules.specs.MapFile as m;
 ghost use Rattle.rules.specs.Numbers.{number};
-ghost use Rattle.keygraph.specs.View.{fit, maybeOf};
+ghost use Rattle.keyparts.specs.View.{fit, maybeOf};
 ghost use Rattle.mapfile.specs.View.{cursorOf, Reads, readMark};
 
 // The first `count` actions are the list.

@@ -15,9 +15,7 @@ ghost use Rattle.mapfile.specs.View.{mapOf};
 
 // The words of the graph and of the tables. Refused, only the number counts.
 pub struct MapRead {
-    pub heads: [u64; 1040],
-    pub acts: [u64; 1040],
-    pub edges: [u64; 2048],
+    pub words: [u64; 4128],
     pub counts: Counts,
     pub classes: [u64; 16],
     pub modes: [u64; 48],
@@ -54,15 +52,11 @@ pub fn read_map(s: &[u8]) -> MapRead
     let rules = t.rules;
     let sizes = t.sizes;
     let fresh = Graph::fresh();
-    let mut heads = fresh.heads;
-    let mut acts = fresh.acts;
-    let mut edges = fresh.edges;
+    let mut words = fresh.words;
     let none = fresh.counts;
     if b.refusal != 0 {
         return MapRead {
-            heads: heads,
-            acts: acts,
-            edges: edges,
+            words: words,
             counts: none,
             classes: classes,
             modes: modes,
@@ -71,14 +65,12 @@ pub fn read_map(s: &[u8]) -> MapRead
             answer: Answer::Refused(b.refusal),
         };
     }
-    let r = bind::read_bindings(s, &mut heads, &mut acts, &mut edges, none, n.value, b.at);
+    let r = bind::read_bindings(s, &mut words, none, n.value, b.at);
     let k = r.counts;
     let read = r.answer;
     let answer = at_end(s, r.at, read);
     MapRead {
-        heads: heads,
-        acts: acts,
-        edges: edges,
+        words: words,
         counts: k,
         classes: classes,
         modes: modes,

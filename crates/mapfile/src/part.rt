@@ -8,7 +8,7 @@ ghost use mathlib.Core.Path.{_≡_};
 ghost use Prim.Native.Nat.{_≤_};
 ghost use Rattle.rules.specs.Values.{mostParts};
 ghost use Rattle.rules.specs.MapFile.{readPart, listOf};
-ghost use Rattle.keygraph.specs.View.{repeatOf, eventOf, partOf, wholePath};
+ghost use Rattle.keyparts.specs.View.{repeatOf, eventOf, partOf, wholePath};
 ghost use Rattle.mapfile.specs.View.{cursorOf, Reads, readRepeat, readEvent};
 
 pub struct RepeatRead {

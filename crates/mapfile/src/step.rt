@@ -4,7 +4,7 @@ use crate::list;
 use keygraph::step::Step;
 ghost use mathlib.Core.Path.{_≡_};
 ghost use Rattle.rules.specs.MapFile.{readStep};
-ghost use Rattle.keygraph.specs.View.{wholeStep};
+ghost use Rattle.keyparts.specs.View.{wholeStep};
 ghost use Rattle.mapfile.specs.View.{cursorOf, Reads};
 
 pub struct StepRead {

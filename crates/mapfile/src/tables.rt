@@ -2,6 +2,7 @@
 use crate::cursor::Cursor;
 use crate::list;
 use keygraph::class;
+use keygraph::number;
 use keymachine::state::Sizes;
 ghost use mathlib.Core.Path.{_≡_};
 ghost use mathlib.Core.List.{[], _∷_};
@@ -9,7 +10,7 @@ ghost use Prim.Native.Nat.{_≤_, _<_};
 ghost use Rattle.rules.specs.Values.{mostClasses, modeCount, mostRules};
 ghost use Rattle.rules.specs.Tables.{Rule};
 ghost use Rattle.rules.specs.MapFile.{listOf, readClass, readMode, readRule, readTables};
-ghost use Rattle.keygraph.specs.View.{fourOf, classAt, classesOf};
+ghost use Rattle.keyparts.specs.View.{fourOf, classAt, classesOf};
 ghost use Rattle.keymachine.specs.Views.{ruleOf, rulesOf, entryOf, modesOf, tablesOf};
 ghost use Rattle.mapfile.specs.View.{cursorOf, Reads};
 
@@ -51,19 +52,6 @@ pub struct TablesRead {
     pub rules: [u64; 64],
     pub sizes: Sizes,
     pub cursor: Cursor,
-}
-
-// The word of four actions, the first lowest.
-fn four(a: u16, b: u16, c: u16, d: u16) -> u64
-    ensures { λ r. ⌜ fourOf r ≡ a ∷ b ∷ c ∷ d ∷ [] ⌝ }
-{
-    (a as u64) + 65536 * ((b as u64) + 65536 * ((c as u64) + 65536 * (d as u64)))
-}
-
-fn four_of(actions: [u16; 4]) -> u64
-    ensures { λ r. ⌜ fourOf r ≡ actions ⌝ }
-{
-    four(actions[0], actions[1], actions[2], actions[3])
 }
 
 fn rule_word(mode: u16, low: u16, high: u16, sequence: u16, status: u16) -> u64
@@ -127,8 +115,8 @@ pub fn read_mode(s: &[u8], from: Cursor) -> ModeRead
     let first = enter.actions;
     let second = unmapped.actions;
     ModeRead {
-        enter: four_of(first),
-        unmapped: four_of(second),
+        enter: number::four_word(first),
+        unmapped: number::four_word(second),
         head: (enter.count as u64) + 8 * ((unmapped.count as u64) + 8 * (next.value as u64)),
         cursor: c,
     }

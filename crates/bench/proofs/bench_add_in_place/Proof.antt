@@ -1,15 +1,16 @@
--- The arrays keep their lengths in each call, which is all that the next one asks; the bindings left to add fall.
+-- The array keeps its length in each call, which is all that the next one asks; the bindings left to add fall.
 use Prim.Native.Nat.{_≤_, _-_}
-use Rattle.keygraph.specs.Making.{Sized}
+use mathlib.Core.Path.{_≡_}
+use lib.ListN.{length}
 use borrow.Author.Needs.{needs}
 use Rattle.bench.proofs.bench_add_in_place.Statement.{statement}
 use Rattle.bench.proofs.bench_add_in_place.Tie as tie
 
 abbrev Inv-loop : tie.InvT-loop
-Inv-loop n heads₀ acts₀ edges₀ counts₀ i₀ heads acts edges counts i = Sized heads acts edges × (i ≤ n)
+Inv-loop n words₀ counts₀ i₀ words counts i = (length words ≡ 4128) × (i ≤ n)
 
 abbrev μ-loop : tie.MeasureT-loop
-μ-loop n heads₀ acts₀ edges₀ counts₀ i₀ heads acts edges counts i = n - i
+μ-loop n words₀ counts₀ i₀ words counts i = n - i
 
 fresh-requires : tie.Need-fresh-requires Inv-loop μ-loop
 fresh-requires c κs = search needs

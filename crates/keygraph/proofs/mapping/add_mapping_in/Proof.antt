@@ -2,9 +2,10 @@
 -- chain from the root is `addMapping`; where one fails, the refusal is 1.
 use mathlib.Core.Path.{_≡_, sym, _∙_}
 use lib.ListN.{length}
-use Rattle.keygraph.specs.View.{graphIn, pathOf, stepOf, wholePath, wholeStep}
+use Rattle.keyparts.specs.View.{pathOf, stepOf, wholePath, wholeStep}
+use Rattle.keygraph.specs.View.{graphIn}
 use Rattle.rules.specs.Graph.{addMapping, mapPath}
-use Rattle.keygraph.proofs.Ranges.{length-mapped, map-good, map-bad-mode, map-bad-path, map-bad-step}
+use Rattle.keyparts.proofs.Ranges.{length-mapped, map-good, map-bad-mode, map-bad-path, map-bad-step}
 use Rattle.keygraph.proofs.Cursors.{call-done}
 use borrow.Author.Needs.{needs}
 use Rattle.keygraph.proofs.mapping.add_mapping_in.Statement.{statement}
@@ -33,10 +34,10 @@ placed-requires c κs = search needs
 
 returns : tie.Need-returns
 unfolding addMapping
-returns c = let a = c .before .before .before .before .before .before .before .before .before .before .before .args in let p = a .path in let s = a .step in let ep = parts-length (c .before .before .before .before .before .before .before .before .before .before .before) in let es = actions-length (c .before .before .before .before .before .before .before .before .before .before .before) in (
+returns c = let a = c .before .before .before .before .before .before .before .before .before .args in let p = a .path in let s = a .step in let ep = parts-length (c .before .before .before .before .before .before .before .before .before) in let es = actions-length (c .before .before .before .before .before .before .before .before .before) in (
   c .before .map-path .ensures .0,
-  map-good (a .mode) p s (graphIn (a .heads .now) (a .acts .now) (a .edges .now) (a .counts)) _ ep es (c .before .before .before .before .before .before .before .before .before .before .if1 .taken) (sym (c .before .before .before .before .before .before .before .before .if2 .taken) ∙ c .before .before .before .before .before .before .before .before .before .valid .ensures) (sym (c .before .before .before .before .before .before .if3 .taken) ∙ c .before .before .before .before .before .before .before .valid2 .ensures)
-      (c .placed .ensures _ _ _ ∙ call-done (a .heads .now) (a .acts .now) (a .edges .now) (a .counts) (a .mode) (mapPath (a .mode) (pathOf p) (stepOf s)) _ (c .before .before .before .before .before .start .ensures) (c .before .map-path .ensures .1)),
+  map-good (a .mode) p s (graphIn (a .words .now) (a .counts)) _ ep es (c .before .before .before .before .before .before .before .before .if1 .taken) (sym (c .before .before .before .before .before .before .if2 .taken) ∙ c .before .before .before .before .before .before .before .valid .ensures) (sym (c .before .before .before .before .if3 .taken) ∙ c .before .before .before .before .before .valid2 .ensures)
+      (c .placed .ensures _ ∙ call-done (a .words .now) (a .counts) (a .mode) (mapPath (a .mode) (pathOf p) (stepOf s)) _ (c .before .before .before .start .ensures) (c .before .map-path .ensures .1)),
 )
 
 returns-2 : tie.Need-returns-2

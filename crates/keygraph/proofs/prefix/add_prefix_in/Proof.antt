@@ -2,10 +2,11 @@
 -- the chain from the root is `addPrefix`; where one fails, the refusal is 1.
 use mathlib.Core.Path.{_≡_, sym, _∙_}
 use lib.ListN.{length}
-use Rattle.keygraph.specs.View.{graphIn, pathOf, stepOf, wholePath, wholeStep, chosenOf}
+use Rattle.keyparts.specs.View.{pathOf, stepOf, wholePath, wholeStep, chosenOf}
+use Rattle.keygraph.specs.View.{graphIn}
 use Rattle.rules.specs.Graph.{addPrefix, prefixPath}
 use mathlib.Core.Bool.{true}
-use Rattle.keygraph.proofs.Ranges.{length-mapped, prefix-good, prefix-bad-mode, prefix-bad-path, prefix-bad-step}
+use Rattle.keyparts.proofs.Ranges.{length-mapped, prefix-good, prefix-bad-mode, prefix-bad-path, prefix-bad-step}
 use Rattle.keygraph.proofs.Cursors.{call-done}
 use borrow.Author.Needs.{needs}
 use Rattle.keygraph.proofs.prefix.add_prefix_in.Statement.{statement}
@@ -34,10 +35,10 @@ placed-requires c κs = search needs
 
 returns : tie.Need-returns
 unfolding addPrefix
-returns c = let a = c .before .before .before .before .before .before .before .before .before .before .before .args in let p = a .path in let s = a .step in let ep = parts-length (c .before .before .before .before .before .before .before .before .before .before .before) in let es = actions-length (c .before .before .before .before .before .before .before .before .before .before .before) in (
+returns c = let a = c .before .before .before .before .before .before .before .before .before .args in let p = a .path in let s = a .step in let ep = parts-length (c .before .before .before .before .before .before .before .before .before) in let es = actions-length (c .before .before .before .before .before .before .before .before .before) in (
   c .before .prefix-path .ensures .0,
-  prefix-good (a .mode) p s (graphIn (a .heads .now) (a .acts .now) (a .edges .now) (a .counts)) _ ep es (c .before .before .before .before .before .before .before .before .before .before .if1 .taken) (sym (c .before .before .before .before .before .before .before .before .if2 .taken) ∙ c .before .before .before .before .before .before .before .before .before .valid .ensures) (a .chosen) (sym (c .before .before .before .before .before .before .if3 .taken) ∙ c .before .before .before .before .before .before .before .prefix-step-valid .ensures)
-      (c .placed .ensures _ _ _ ∙ call-done (a .heads .now) (a .acts .now) (a .edges .now) (a .counts) (a .mode) (prefixPath (a .mode) true (pathOf p) (chosenOf (a .chosen) (stepOf s))) _ (c .before .before .before .before .before .start .ensures) (c .before .prefix-path .ensures .1)),
+  prefix-good (a .mode) p s (graphIn (a .words .now) (a .counts)) _ ep es (c .before .before .before .before .before .before .before .before .if1 .taken) (sym (c .before .before .before .before .before .before .if2 .taken) ∙ c .before .before .before .before .before .before .before .valid .ensures) (a .chosen) (sym (c .before .before .before .before .if3 .taken) ∙ c .before .before .before .before .before .prefix-step-valid .ensures)
+      (c .placed .ensures _ ∙ call-done (a .words .now) (a .counts) (a .mode) (prefixPath (a .mode) true (pathOf p) (chosenOf (a .chosen) (stepOf s))) _ (c .before .before .before .start .ensures) (c .before .prefix-path .ensures .1)),
 )
 
 returns-2 : tie.Need-returns-2

@@ -9,7 +9,8 @@ use borrow.Author.Needs.{needs}
 use Rattle.rules.specs.Basics.{Result}
 use Rattle.rules.specs.KeyLoop.{State, KeyResult, loop, inputKey}
 use Rattle.rules.specs.Calls.{graphNavigator}
-use Rattle.keygraph.specs.View.{graphIn, stepOf, classesOf, edgesOf}
+use Rattle.keyparts.specs.View.{stepOf, classesOf, edgesOf}
+use Rattle.keygraph.specs.View.{graphFrom}
 use Rattle.keymachine.specs.declared.turn.InputResult.{InputResult}
 use Rattle.keymachine.specs.Views.{outcome, tablesOf, stateOf, resultBy, keyOf}
 use Rattle.keymachine.proofs.Lists.{take-min, outcome-ok, outcome-no}
@@ -20,8 +21,8 @@ use Rattle.keymachine.proofs.key.input_key.Tie as tie
 
 abbrev Inv-loop : tie.InvT-loop
 Inv-loop edges heads acts counts classes modes rules sizes queue₀ sequences₀ trail₀ start trailed first budget stack₀ top₀ s₀ n₀ rounds₀ key₀ queue sequences trail stack top s n rounds key =
-    Held (graphIn heads acts edges counts) budget
-    (loop (graphNavigator (graphIn heads acts edges counts)) (budget - rounds₀) rounds₀ (key₀ ∷ drop top₀ stack₀) (stateOf s₀ (tablesOf sizes classes modes rules) queue₀ sequences₀ (take n₀ trail₀)))
+    Held (graphFrom heads acts edges counts) budget
+    (loop (graphNavigator (graphFrom heads acts edges counts)) (budget - rounds₀) rounds₀ (key₀ ∷ drop top₀ stack₀) (stateOf s₀ (tablesOf sizes classes modes rules) queue₀ sequences₀ (take n₀ trail₀)))
     stack top rounds (key ∷ drop top stack) (stateOf s (tablesOf sizes classes modes rules) queue sequences (take n trail))
     × Lens queue sequences trail n × (rounds₀ ≤ rounds)
 
@@ -31,8 +32,8 @@ abbrev μ-loop : tie.MeasureT-loop
 
 abbrev Inv-keys : tie.InvT-keys
 Inv-keys edges heads acts counts classes modes rules sizes queue₀ sequences₀ trail₀ start trailed first budget stack₀ top₀ s₀ n₀ rounds₀ queue sequences trail stack top s n rounds =
-    Held (graphIn heads acts edges counts) budget
-    (inputKey (graphNavigator (graphIn heads acts edges counts)) (record { key = first; budget = budget }) (stateOf start (tablesOf sizes classes modes rules) queue₀ sequences₀ (take trailed trail₀)))
+    Held (graphFrom heads acts edges counts) budget
+    (inputKey (graphNavigator (graphFrom heads acts edges counts)) (record { key = first; budget = budget }) (stateOf start (tablesOf sizes classes modes rules) queue₀ sequences₀ (take trailed trail₀)))
     stack top rounds (drop top stack) (stateOf s (tablesOf sizes classes modes rules) queue sequences (take n trail))
     × Lens queue sequences trail n
 
@@ -49,7 +50,7 @@ least-requires c κs = search needs
 keys-holds : tie.Need-keys-holds Inv-loop μ-loop Inv-keys μ-keys
 keys-holds c = let a = c .before .before .before .before .before .before .before .args in let p = c .before .before .before .before .before .before .before .pre in (
   rw (take-min (a .trailed) 64 (a .trail .now) (c .least .result) (p .2) (c .least .ensures .0))
-      (held-start (graphIn (a .heads .now) (a .acts .now) (a .edges .now) (a .counts)) (a .budget) (a .first) (stateOf (a .start) (tablesOf (a .sizes) (a .classes .now) (a .modes .now) (a .rules .now)) (a .queue .now) (a .sequences .now) (take (a .trailed) (a .trail .now))) (replicate 130 0) refl
+      (held-start (graphFrom (a .heads .now) (a .acts .now) (a .edges .now) (a .counts)) (a .budget) (a .first) (stateOf (a .start) (tablesOf (a .sizes) (a .classes .now) (a .modes .now) (a .rules .now)) (a .queue .now) (a .sequences .now) (take (a .trailed) (a .trail .now))) (replicate 130 0) refl
       (omega (arith, weight-most (a .trailed) (a .trail .now), length-take (a .trailed) (a .trail .now)))),
   record { queues = p .0; tracked = p .1; trails = p .2; room = c .least .ensures .1 },
 )
@@ -65,7 +66,7 @@ add-top c = search needs
 
 -- what the round of one turn of the inner loop left, by what it came to
 made : (c : tie.After-what Inv-loop μ-loop Inv-keys μ-keys) (y : InputResult) → c .before .before .turn .result .result ≡ y
-    → Round (graphIn (c .before .before .before .before .before .before .before .before .before .before .before .before .before .before .args .heads .now) (c .before .before .before .before .before .before .before .before .before .before .before .before .before .before .args .acts .now) (c .before .before .before .before .before .before .before .before .before .before .before .before .before .before .args .edges .now) (c .before .before .before .before .before .before .before .before .before .before .before .before .before .before .args .counts)) (c .before .before .before .before .loop .key)
+    → Round (graphFrom (c .before .before .before .before .before .before .before .before .before .before .before .before .before .before .args .heads .now) (c .before .before .before .before .before .before .before .before .before .before .before .before .before .before .args .acts .now) (c .before .before .before .before .before .before .before .before .before .before .before .before .before .before .args .edges .now) (c .before .before .before .before .before .before .before .before .before .before .before .before .before .before .args .counts)) (c .before .before .before .before .loop .key)
     (stateOf (c .before .before .before .before .loop .s) (tablesOf (c .before .before .before .before .before .before .before .before .before .before .before .before .before .before .args .sizes) (c .before .before .before .before .before .before .before .before .before .before .before .before .before .before .args .classes .now) (c .before .before .before .before .before .before .before .before .before .before .before .before .before .before .args .modes .now) (c .before .before .before .before .before .before .before .before .before .before .before .before .before .before .args .rules .now)) (c .before .before .before .before .loop .queue) (c .before .before .before .before .loop .sequences) (take (c .before .before .before .before .loop .n) (c .before .before .before .before .loop .trail)))
     (stateOf (c .before .before .turn .result .state) (tablesOf (c .before .before .before .before .before .before .before .before .before .before .before .before .before .before .args .sizes) (c .before .before .before .before .before .before .before .before .before .before .before .before .before .before .args .classes .now) (c .before .before .before .before .before .before .before .before .before .before .before .before .before .before .args .modes .now) (c .before .before .before .before .before .before .before .before .before .before .before .before .before .before .args .rules .now)) (c .before .before .before .before .loop .queue) (c .before .before .before .before .loop .sequences) (take (c .before .before .before .before .loop .n) (c .before .before .before .before .loop .trail)))
     (resultBy y (stepOf (c .before .before .turn .result .step)))
@@ -78,9 +79,9 @@ made c y e = let u = c .before .before .turn in
     }
 
 -- the key in hand and the rest of the stack are the stack that the outer loop's turn began with
-popped : (c : tie.At-loop Inv-loop μ-loop Inv-keys μ-keys) → inputKey (graphNavigator (graphIn (c .before .before .before .before .before .before .before .before .before .before .args .heads .now) (c .before .before .before .before .before .before .before .before .before .before .args .acts .now) (c .before .before .before .before .before .before .before .before .before .before .args .edges .now) (c .before .before .before .before .before .before .before .before .before .before .args .counts))) (record { key = c .before .before .before .before .before .before .before .before .before .before .args .first; budget = c .before .before .before .before .before .before .before .before .before .before .args .budget })
+popped : (c : tie.At-loop Inv-loop μ-loop Inv-keys μ-keys) → inputKey (graphNavigator (graphFrom (c .before .before .before .before .before .before .before .before .before .before .args .heads .now) (c .before .before .before .before .before .before .before .before .before .before .args .acts .now) (c .before .before .before .before .before .before .before .before .before .before .args .edges .now) (c .before .before .before .before .before .before .before .before .before .before .args .counts))) (record { key = c .before .before .before .before .before .before .before .before .before .before .args .first; budget = c .before .before .before .before .before .before .before .before .before .before .args .budget })
     (stateOf (c .before .before .before .before .before .before .before .before .before .before .args .start) (tablesOf (c .before .before .before .before .before .before .before .before .before .before .args .sizes) (c .before .before .before .before .before .before .before .before .before .before .args .classes .now) (c .before .before .before .before .before .before .before .before .before .before .args .modes .now) (c .before .before .before .before .before .before .before .before .before .before .args .rules .now)) (c .before .before .before .before .before .before .before .before .before .before .args .queue .now) (c .before .before .before .before .before .before .before .before .before .before .args .sequences .now) (take (c .before .before .before .before .before .before .before .before .before .before .args .trailed) (c .before .before .before .before .before .before .before .before .before .before .args .trail .now)))
-    ≡ loop (graphNavigator (graphIn (c .before .before .before .before .before .before .before .before .before .before .args .heads .now) (c .before .before .before .before .before .before .before .before .before .before .args .acts .now) (c .before .before .before .before .before .before .before .before .before .before .args .edges .now) (c .before .before .before .before .before .before .before .before .before .before .args .counts))) (c .before .before .before .before .before .before .before .before .before .before .args .budget - c .before .before .keys .rounds) (c .before .before .keys .rounds) (getD (c .before .before .keys .stack) (c .before .before .keys .top) 0 ∷ drop (c .before .before .keys .top + 1) (c .before .before .keys .stack)) (stateOf (c .before .before .keys .s) (tablesOf (c .before .before .before .before .before .before .before .before .before .before .args .sizes) (c .before .before .before .before .before .before .before .before .before .before .args .classes .now) (c .before .before .before .before .before .before .before .before .before .before .args .modes .now) (c .before .before .before .before .before .before .before .before .before .before .args .rules .now)) (c .before .before .keys .queue) (c .before .before .keys .sequences) (take (c .before .before .keys .n) (c .before .before .keys .trail)))
+    ≡ loop (graphNavigator (graphFrom (c .before .before .before .before .before .before .before .before .before .before .args .heads .now) (c .before .before .before .before .before .before .before .before .before .before .args .acts .now) (c .before .before .before .before .before .before .before .before .before .before .args .edges .now) (c .before .before .before .before .before .before .before .before .before .before .args .counts))) (c .before .before .before .before .before .before .before .before .before .before .args .budget - c .before .before .keys .rounds) (c .before .before .keys .rounds) (getD (c .before .before .keys .stack) (c .before .before .keys .top) 0 ∷ drop (c .before .before .keys .top + 1) (c .before .before .keys .stack)) (stateOf (c .before .before .keys .s) (tablesOf (c .before .before .before .before .before .before .before .before .before .before .args .sizes) (c .before .before .before .before .before .before .before .before .before .before .args .classes .now) (c .before .before .before .before .before .before .before .before .before .before .args .modes .now) (c .before .before .before .before .before .before .before .before .before .before .args .rules .now)) (c .before .before .keys .queue) (c .before .before .keys .sequences) (take (c .before .before .keys .n) (c .before .before .keys .trail)))
 popped c = held-pop (c .before .before .keys .inv .0) (c .before .keys-test .taken) .same
 
 loop-holds : tie.Need-loop-holds Inv-loop μ-loop Inv-keys μ-keys
@@ -240,7 +241,7 @@ returns-4 c = let a = c .before .before .before .before .before .before .before 
   (r .ensures .0 .0, r .ensures .0 .1, L .inv .1 .trails),
   rw (c .refused4 .ensures)
       (ap (λ (y : Result (State ℕ)). record { rounds = L .rounds + 1; result = y }) (outcome-no (r .result .refusal) _ (c .before .if6 .taken))
-      ∙ sym (popped (c .before .before .before .before .before .before .before .before .before .before .before .before) ∙ met-step-refused (L .inv .0) (c .before .before .before .before .before .before .before .before .before .before .before .if1 .left) (made (c .before .before .before .before .before .before .before .before) _ (c .before .before .before .before .before .before .enum-told6 .given .1)) (r .result .refusal) (sym (outcome-no (r .result .refusal) _ (c .before .if6 .taken)) ∙ r .ensures .1 (classesOf (a .classes .now) (a .sizes .classes)) (graphIn (a .heads .now) (a .acts .now) (a .edges .now) (a .counts)) []))),
+      ∙ sym (popped (c .before .before .before .before .before .before .before .before .before .before .before .before) ∙ met-step-refused (L .inv .0) (c .before .before .before .before .before .before .before .before .before .before .before .if1 .left) (made (c .before .before .before .before .before .before .before .before) _ (c .before .before .before .before .before .before .enum-told6 .given .1)) (r .result .refusal) (sym (outcome-no (r .result .refusal) _ (c .before .if6 .taken)) ∙ r .ensures .1 (classesOf (a .classes .now) (a .sizes .classes)) (graphFrom (a .heads .now) (a .acts .now) (a .edges .now) (a .counts)) []))),
 )
 
 keys-less-5 : tie.Need-keys-less-5 Inv-loop μ-loop Inv-keys μ-keys
@@ -248,7 +249,7 @@ keys-less-5 c = search needs
 
 keys-again-5 : tie.Need-keys-again-5 Inv-loop μ-loop Inv-keys μ-keys
 keys-again-5 c = let a = c .before .before .before .before .before .before .before .before .before .before .before .before .before .before .before .before .before .before .before .before .before .before .args in let L = c .before .before .before .before .before .before .before .before .before .before .before .before .loop in let r = c .before .before .before .step in (
-  held-from _ (popped (c .before .before .before .before .before .before .before .before .before .before .before .before)) (met-step (L .inv .0) (c .before .before .before .before .before .before .before .before .before .before .before .if1 .left) (made (c .before .before .before .before .before .before .before .before) _ (c .before .before .before .before .before .before .enum-told6 .given .1)) _ (sym (outcome-ok (r .result .refusal) _ (c .before .if6 .left)) ∙ r .ensures .1 (classesOf (a .classes .now) (a .sizes .classes)) (graphIn (a .heads .now) (a .acts .now) (a .edges .now) (a .counts)) []) refl),
+  held-from _ (popped (c .before .before .before .before .before .before .before .before .before .before .before .before)) (met-step (L .inv .0) (c .before .before .before .before .before .before .before .before .before .before .before .if1 .left) (made (c .before .before .before .before .before .before .before .before) _ (c .before .before .before .before .before .before .enum-told6 .given .1)) _ (sym (outcome-ok (r .result .refusal) _ (c .before .if6 .left)) ∙ r .ensures .1 (classesOf (a .classes .now) (a .sizes .classes)) (graphFrom (a .heads .now) (a .acts .now) (a .edges .now) (a .counts)) []) refl),
   record { queues = r .ensures .0 .0; tracked = r .ensures .0 .1; trails = L .inv .1 .trails; room = search needs },
 )
 
@@ -266,7 +267,7 @@ returns-5 c = let a = c .before .before .before .before .before .before .before 
   (r .ensures .0 .0, r .ensures .0 .1, L .inv .1 .trails),
   rw (c .refused5 .ensures)
       (ap (λ (y : Result (State ℕ)). record { rounds = L .rounds + 1; result = y }) (outcome-no (r .result .refusal) _ (c .before .if7 .taken))
-      ∙ sym (popped (c .before .before .before .before .before .before .before .before .before .before .before .before) ∙ met-retry-refused (L .inv .0) (c .before .before .before .before .before .before .before .before .before .before .before .if1 .left) (made (c .before .before .before .before .before .before .before .before) _ (c .before .before .before .before .before .before .enum-told7 .given .1)) (r .result .refusal) (sym (outcome-no (r .result .refusal) _ (c .before .if7 .taken)) ∙ r .ensures .1 (classesOf (a .classes .now) (a .sizes .classes)) (graphIn (a .heads .now) (a .acts .now) (a .edges .now) (a .counts)) []))),
+      ∙ sym (popped (c .before .before .before .before .before .before .before .before .before .before .before .before) ∙ met-retry-refused (L .inv .0) (c .before .before .before .before .before .before .before .before .before .before .before .if1 .left) (made (c .before .before .before .before .before .before .before .before) _ (c .before .before .before .before .before .before .enum-told7 .given .1)) (r .result .refusal) (sym (outcome-no (r .result .refusal) _ (c .before .if7 .taken)) ∙ r .ensures .1 (classesOf (a .classes .now) (a .sizes .classes)) (graphFrom (a .heads .now) (a .acts .now) (a .edges .now) (a .counts)) []))),
 )
 
 loop-less-4 : tie.Need-loop-less-4 Inv-loop μ-loop Inv-keys μ-keys
@@ -274,7 +275,7 @@ loop-less-4 c = search needs
 
 loop-again-4 : tie.Need-loop-again-4 Inv-loop μ-loop Inv-keys μ-keys
 loop-again-4 c = let a = c .before .before .before .before .before .before .before .before .before .before .before .before .before .before .before .before .before .before .before .before .before .before .args in let L = c .before .before .before .before .before .before .before .before .before .before .before .before .loop in let r = c .before .before .before .step2 in (
-  met-retry (L .inv .0) (c .before .before .before .before .before .before .before .before .before .before .before .if1 .left) (made (c .before .before .before .before .before .before .before .before) _ (c .before .before .before .before .before .before .enum-told7 .given .1)) _ (sym (outcome-ok (r .result .refusal) _ (c .before .if7 .left)) ∙ r .ensures .1 (classesOf (a .classes .now) (a .sizes .classes)) (graphIn (a .heads .now) (a .acts .now) (a .edges .now) (a .counts)) []) refl,
+  met-retry (L .inv .0) (c .before .before .before .before .before .before .before .before .before .before .before .if1 .left) (made (c .before .before .before .before .before .before .before .before) _ (c .before .before .before .before .before .before .enum-told7 .given .1)) _ (sym (outcome-ok (r .result .refusal) _ (c .before .if7 .left)) ∙ r .ensures .1 (classesOf (a .classes .now) (a .sizes .classes)) (graphFrom (a .heads .now) (a .acts .now) (a .edges .now) (a .counts)) []) refl,
   record { queues = r .ensures .0 .0; tracked = r .ensures .0 .1; trails = L .inv .1 .trails; room = search needs },
   search needs,
 )

@@ -1,6 +1,6 @@
 -- The pushes stop at a refusal, and else the next mode is entered from what they left.
 use mathlib.Core.Path.{_≡_, refl, sym, ap, _∙_}
-use Rattle.keygraph.specs.View.{maybeOf}
+use Rattle.keyparts.specs.View.{maybeOf}
 use Rattle.keymachine.specs.Views.{tables, modesOf, rulesOf, actionsBy, contextOf, pairsOf, trackersOf}
 use Rattle.keymachine.proofs.Lists.{outcome-ok, outcome-no}
 use Rattle.keymachine.proofs.Modes.{give-goto-stop, give-goto-on}

@@ -1,7 +1,7 @@
 -- After the mark, a step that is idle stays, and any other gives and enters.
 use lib.ListN.{length}
 use mathlib.Core.Path.{_≡_, refl, sym, ap, _∙_}
-use Rattle.keygraph.specs.View.{stepOf}
+use Rattle.keyparts.specs.View.{stepOf}
 use Rattle.keymachine.specs.Views.{tables, modesOf, rulesOf, stateOf}
 use Rattle.keymachine.proofs.Modes.{step-idle, step-goes}
 use borrow.Author.Needs.{needs}

@@ -2,7 +2,7 @@
 use mathlib.Core.Path.{_≡_, refl, sym, ap, _∙_}
 use Rattle.rules.specs.Graph.{Node}
 use Rattle.rules.specs.Calls.{graphNavigator}
-use Rattle.keygraph.specs.View.{nodeOf, nodesOf, graphBy}
+use Rattle.keyparts.specs.View.{nodeOf, nodesOf, graphBy}
 use Rattle.keymachine.specs.Views.{tables, modesOf, rulesOf, entryBy, stateOf}
 use Rattle.keymachine.proofs.Modes.{unmapped-is}
 use borrow.Author.Needs.{needs}

@@ -1,6 +1,6 @@
 -- 0 stands for none, and one more than the number for the number.
 use mathlib.Core.Path.{_≡_, refl, sym, ap, _∙_}
-use Rattle.keygraph.specs.View.{maybeOf}
+use Rattle.keyparts.specs.View.{maybeOf}
 use Rattle.keymachine.proofs.Packs.{opt-is, opt-zero}
 use borrow.Author.Needs.{needs}
 use Rattle.keymachine.proofs.tables.pack_maybe.Statement.{statement}

@@ -1,6 +1,6 @@
 -- The arms and tests are those of the definition.
 use mathlib.Core.Path.{_≡_, refl, sym, _∙_}
-use Rattle.keygraph.specs.View.{nodeOf, actionOf, stepOf, graphBy, edgesOf}
+use Rattle.keyparts.specs.View.{nodeOf, actionOf, stepOf, graphBy, edgesOf}
 use Rattle.keymachine.proofs.Rounds.{arrive-empty, arrive-root, arrive-step, arrive-more, arrive-unmapped}
 use borrow.Author.Needs.{needs}
 use Rattle.keymachine.proofs.turn.arrive.Statement.{statement}

@@ -1,6 +1,6 @@
 -- The arms are those of the definition.
 use mathlib.Core.Path.{_≡_, refl}
-use Rattle.keygraph.specs.View.{nodeOf, actionOf, stepOf}
+use Rattle.keyparts.specs.View.{nodeOf, actionOf, stepOf}
 use Rattle.keymachine.proofs.Rounds.{land-empty, land-root, land-step}
 use borrow.Author.Needs.{needs}
 use Rattle.keymachine.proofs.turn.land.Statement.{statement}

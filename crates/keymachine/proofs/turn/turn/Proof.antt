@@ -1,7 +1,8 @@
 -- The three ways of following are the clauses of `turnBy`, and the node that was come to tells the rest.
 use mathlib.Core.Path.{_≡_, refl, sym, ap, _∙_}
 use Rattle.rules.specs.Graph.{followEdge}
-use Rattle.keygraph.specs.View.{nodeOf, eventOf, followOf, graphIn, nodesOf, edgesOf, classesOf}
+use Rattle.keyparts.specs.View.{nodeOf, eventOf, followOf, nodesOf, edgesOf, classesOf}
+use Rattle.keygraph.specs.View.{graphFrom}
 use Rattle.keymachine.specs.Views.{sharedOf, resultBy, contextOf}
 use Rattle.keymachine.proofs.Rounds.{by-result, by-state, falls-result, falls-state, stuck-result, stuck-state}
 use borrow.Author.Needs.{needs}
@@ -24,7 +25,7 @@ event-requires : tie.Need-event-requires
 event-requires c κs = search needs
 
 returns : tie.Need-returns
-returns c = let a = c .before .before .before .before .before .before .before .before .before .before .before .before .before .args in let g = graphIn (a .heads .now) (a .acts .now) (a .edges .now) (a .counts) in let ns = nodesOf (a .heads .now) (a .acts .now) (a .counts .nodes) in
+returns c = let a = c .before .before .before .before .before .before .before .before .before .before .before .before .before .args in let g = graphFrom (a .heads .now) (a .acts .now) (a .edges .now) (a .counts) in let ns = nodesOf (a .heads .now) (a .acts .now) (a .counts .nodes) in
     let f = followEdge (classesOf (a .classes .now) (a .entries)) g (a .s .place) (a .key) in
     let e = sym (ap followOf (c .before .before .before .before .before .before .f .given .1)) ∙ c .before .before .before .before .before .before .before .before .follow-edge .ensures ns in
     record {
@@ -42,7 +43,7 @@ land-requires : tie.Need-land-requires
 land-requires c κs = search needs
 
 returns-2 : tie.Need-returns-2
-returns-2 c = let a = c .before .before .before .before .before .before .before .before .before .before .before .before .args in let g = graphIn (a .heads .now) (a .acts .now) (a .edges .now) (a .counts) in let ns = nodesOf (a .heads .now) (a .acts .now) (a .counts .nodes) in
+returns-2 c = let a = c .before .before .before .before .before .before .before .before .before .before .before .before .args in let g = graphFrom (a .heads .now) (a .acts .now) (a .edges .now) (a .counts) in let ns = nodesOf (a .heads .now) (a .acts .now) (a .counts .nodes) in
     let f = followEdge (classesOf (a .classes .now) (a .entries)) g (a .s .place) (a .key) in
     let e = sym (ap followOf (c .before .before .before .before .before .f2 .given .1)) ∙ c .before .before .before .before .before .before .before .follow-edge .ensures ns in
     record {
@@ -57,7 +58,7 @@ default-requires : tie.Need-default-requires
 default-requires c κs = search needs
 
 returns-3 : tie.Need-returns-3
-returns-3 c = let a = c .before .before .before .before .before .before .before .before .args in let g = graphIn (a .heads .now) (a .acts .now) (a .edges .now) (a .counts) in let ns = nodesOf (a .heads .now) (a .acts .now) (a .counts .nodes) in
+returns-3 c = let a = c .before .before .before .before .before .before .before .before .args in let g = graphFrom (a .heads .now) (a .acts .now) (a .edges .now) (a .counts) in let ns = nodesOf (a .heads .now) (a .acts .now) (a .counts .nodes) in
     let f = followEdge (classesOf (a .classes .now) (a .entries)) g (a .s .place) (a .key) in
     let e = sym (ap followOf (c .before .enum-told .given .1)) ∙ c .before .before .before .follow-edge .ensures ns in
     record {

@@ -16,9 +16,9 @@ add-mapping-in-requires c κs = search needs
 returns-2 : tie.Need-returns-2
 unfolding map-call
 returns-2 c =
-    let a = c .before .before .before .before .before .before .before .args in
+    let a = c .before .before .before .before .before .args in
     let k = c .before .add-mapping-in in
-    (k .ensures .0, λ s x. bound s (a .from) (k .result .answer) (graphIn (k .last .0) (k .last .1 .0) (k .last .1 .1 .0) (k .result .counts)) (machineBy (graphIn (a .heads .now) (a .acts .now) (a .edges .now) (a .counts)) x) (c .before .before .before .before .before .if1 .left) (k .ensures .1))
+    (k .ensures .0, λ s x. bound s (a .from) (k .result .answer) (graphIn (k .last .0) (k .result .counts)) (machineBy (graphIn (a .words .now) (a .counts)) x) (c .before .before .before .if1 .left) (k .ensures .1))
 
 pub bind-mapping-spec : {M : Type 1} → statement M
 bind-mapping-spec = tie.close (tie.spec returns add-mapping-in-requires returns-2)

@@ -3,7 +3,8 @@ use Prim.Native.Nat.{ℕ}
 use Rattle.rules.specs.KeyLoop.{State}
 use Rattle.rules.specs.Calls.{Machine, graphKind}
 use Rattle.rules.specs.MapFile.{readBinding}
-use Rattle.keygraph.specs.View.{graphIn, chosenOf}
+use Rattle.keyparts.specs.View.{chosenOf}
+use Rattle.keygraph.specs.View.{graphIn}
 use Rattle.mapfile.specs.View.{machineBy}
 use Rattle.mapfile.proofs.Bindings.{come-from, prefix-alone, mapping-step, prefix-step}
 use borrow.Author.Needs.{needs}
@@ -28,9 +29,9 @@ bind-prefix-requires c κs = search needs
 returns : tie.Need-returns
 unfolding chosenOf
 returns c =
-    let a = c .before .before .before .before .before .before .before .before .before .before .before .before .before .before .before .args in
-    let m : State ℕ → Machine graphKind = λ x. machineBy (graphIn (a .heads .now) (a .acts .now) (a .edges .now) (a .counts)) x in
-    (c .bind-prefix .ensures .0, λ x. come-from (a .s .now) (readBinding (m x)) (a .at) (prefix-alone (m x) (c .before .before .before .before .before .before .before .before .before .before .before .before .before .up-to .ensures .1) (c .before .before .before .before .before .before .before .before .before .before .before .below .ensures .1) (c .before .before .before .before .before .before .before .before .before .read-path .ensures) (c .before .before .before .before .before .if1 .taken) (c .bind-prefix .ensures .1 (a .s .now) x)))
+    let a = c .before .before .before .before .before .before .before .before .before .before .before .before .before .args in
+    let m : State ℕ → Machine graphKind = λ x. machineBy (graphIn (a .words .now) (a .counts)) x in
+    (c .bind-prefix .ensures .0, λ x. come-from (a .s .now) (readBinding (m x)) (a .at) (prefix-alone (m x) (c .before .before .before .before .before .before .before .before .before .before .before .up-to .ensures .1) (c .before .before .before .before .before .before .before .before .before .below .ensures .1) (c .before .before .before .before .before .before .before .read-path .ensures) (c .before .before .before .if1 .taken) (c .bind-prefix .ensures .1 (a .s .now) x)))
 
 read-step-requires : tie.Need-read-step-requires
 read-step-requires c κs = search needs
@@ -40,9 +41,9 @@ bind-mapping-requires c κs = search needs
 
 returns-2 : tie.Need-returns-2
 returns-2 c =
-    let a = c .before .before .before .before .before .before .before .before .before .before .before .before .before .before .before .before .before .before .before .args in
-    let m : State ℕ → Machine graphKind = λ x. machineBy (graphIn (a .heads .now) (a .acts .now) (a .edges .now) (a .counts)) x in
-    (c .bind-mapping .ensures .0, λ x. come-from (a .s .now) (readBinding (m x)) (a .at) (mapping-step (m x) (c .before .before .before .before .before .before .before .before .before .before .before .before .before .before .before .before .before .up-to .ensures .1) (c .before .before .before .before .before .before .before .before .before .before .before .before .before .before .before .below .ensures .1) (c .before .before .before .before .before .before .before .before .before .before .before .before .before .read-path .ensures) (c .before .before .before .before .if2 .taken) (c .before .before .before .before .before .before .before .before .read-step .ensures) (c .bind-mapping .ensures .1 (a .s .now) x)))
+    let a = c .before .before .before .before .before .before .before .before .before .before .before .before .before .before .before .before .before .args in
+    let m : State ℕ → Machine graphKind = λ x. machineBy (graphIn (a .words .now) (a .counts)) x in
+    (c .bind-mapping .ensures .0, λ x. come-from (a .s .now) (readBinding (m x)) (a .at) (mapping-step (m x) (c .before .before .before .before .before .before .before .before .before .before .before .before .before .before .before .up-to .ensures .1) (c .before .before .before .before .before .before .before .before .before .before .before .before .before .below .ensures .1) (c .before .before .before .before .before .before .before .before .before .before .before .read-path .ensures) (c .before .before .if2 .taken) (c .before .before .before .before .before .before .read-step .ensures) (c .bind-mapping .ensures .1 (a .s .now) x)))
 
 bind-prefix-requires-2 : tie.Need-bind-prefix-requires-2
 bind-prefix-requires-2 c κs = search needs
@@ -50,9 +51,9 @@ bind-prefix-requires-2 c κs = search needs
 returns-3 : tie.Need-returns-3
 unfolding chosenOf
 returns-3 c =
-    let a = c .before .before .before .before .before .before .before .before .before .before .before .before .before .before .before .before .before .before .before .args in
-    let m : State ℕ → Machine graphKind = λ x. machineBy (graphIn (a .heads .now) (a .acts .now) (a .edges .now) (a .counts)) x in
-    (c .bind-prefix2 .ensures .0, λ x. come-from (a .s .now) (readBinding (m x)) (a .at) (prefix-step (m x) (c .before .before .before .before .before .before .before .before .before .before .before .before .before .before .before .before .before .up-to .ensures .1) (c .before .before .before .before .before .before .before .before .before .before .before .before .before .before .before .below .ensures .1) (c .before .before .before .before .before .before .before .before .before .before .before .before .before .read-path .ensures) (c .before .before .before .before .if2 .left) (c .before .before .before .before .before .before .before .before .before .if1 .left) (c .before .before .before .before .before .before .before .before .read-step .ensures) (c .bind-prefix2 .ensures .1 (a .s .now) x)))
+    let a = c .before .before .before .before .before .before .before .before .before .before .before .before .before .before .before .before .before .args in
+    let m : State ℕ → Machine graphKind = λ x. machineBy (graphIn (a .words .now) (a .counts)) x in
+    (c .bind-prefix2 .ensures .0, λ x. come-from (a .s .now) (readBinding (m x)) (a .at) (prefix-step (m x) (c .before .before .before .before .before .before .before .before .before .before .before .before .before .before .before .up-to .ensures .1) (c .before .before .before .before .before .before .before .before .before .before .before .before .before .below .ensures .1) (c .before .before .before .before .before .before .before .before .before .before .before .read-path .ensures) (c .before .before .if2 .left) (c .before .before .before .before .before .before .before .if1 .left) (c .before .before .before .before .before .before .read-step .ensures) (c .bind-prefix2 .ensures .1 (a .s .now) x)))
 
 pub read-binding-spec : {M : Type 1} → statement M
 read-binding-spec =

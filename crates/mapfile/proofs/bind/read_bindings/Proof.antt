@@ -4,38 +4,37 @@ use native.Mathlib.Omega.{arith}
 use borrow.Author.Needs.{needs}
 use Prim.Native.Nat.{ℕ}
 use mathlib.Core.Path.{_≡_, refl, _∙_}
-use lib.ListN.{drop}
+use lib.ListN.{length, drop}
 use Rattle.rules.specs.KeyLoop.{State}
 use Rattle.rules.specs.MapFile.{readBindings}
 use Rattle.keygraph.specs.View.{graphIn}
-use Rattle.keygraph.specs.Making.{Sized}
 use Rattle.mapfile.specs.View.{machineBy}
 use Rattle.mapfile.proofs.Bindings.{one-more, no-more, none-left}
 use Rattle.mapfile.proofs.bind.read_bindings.Statement.{statement}
 use Rattle.mapfile.proofs.bind.read_bindings.Tie as tie
 
 abbrev Inv-loop : tie.InvT-loop
-Inv-loop s heads₀ acts₀ edges₀ n from k₀ at₀ left₀ heads acts edges k at left =
-    (left ≤ n) × Sized heads acts edges × ((x : State ℕ) → readBindings left (machineBy (graphIn heads acts edges k) x) (drop at s) ≡ readBindings n (machineBy (graphIn heads₀ acts₀ edges₀ k₀) x) (drop from s))
+Inv-loop s words₀ n from k₀ at₀ left₀ words k at left =
+    (left ≤ n) × (length words ≡ 4128) × ((x : State ℕ) → readBindings left (machineBy (graphIn words k) x) (drop at s) ≡ readBindings n (machineBy (graphIn words₀ k₀) x) (drop from s))
 
 abbrev μ-loop : tie.MeasureT-loop
-μ-loop s heads₀ acts₀ edges₀ n from k₀ at₀ left₀ heads acts edges k at left = left
+μ-loop s words₀ n from k₀ at₀ left₀ words k at left = left
 
 loop-holds : tie.Need-loop-holds Inv-loop μ-loop
 loop-holds c = (search needs, c .before .pre, λ x. refl)
 
 read-binding-requires : tie.Need-read-binding-requires Inv-loop μ-loop
-read-binding-requires c κs = c .before .before .before .before .loop .inv .1
+read-binding-requires c κs = c .before .before .loop .inv .1
 
 enum-told : tie.Need-enum-told Inv-loop μ-loop
 enum-told c = search needs
 
 returns : tie.Need-returns Inv-loop μ-loop
 returns c =
-    let s = c .before .before .before .before .before .before .before .before .before .args .s .now in
-    let L = c .before .before .before .before .before .before .before .loop in
+    let s = c .before .before .before .before .before .before .before .args .s .now in
+    let L = c .before .before .before .before .before .loop in
     let k = c .before .before .read-binding in
-    (k .ensures .0, λ x. no-more (k .result .answer) (L .left) (machineBy (graphIn (L .heads) (L .acts) (L .edges) (L .k)) x) (machineBy (graphIn (k .last .1 .0) (k .last .1 .1 .0) (k .last .1 .1 .1 .0) (k .result .counts)) x) (drop (L .at) s) (drop (k .result .at) s) _ (c .before .before .before .before .before .before .loop-test .taken) (c .enum-told .given .1) (k .ensures .1 x) ∙ L .inv .2 x)
+    (k .ensures .0, λ x. no-more (k .result .answer) (L .left) (machineBy (graphIn (L .words) (L .k)) x) (machineBy (graphIn (k .last .1 .0) (k .result .counts)) x) (drop (L .at) s) (drop (k .result .at) s) _ (c .before .before .before .before .loop-test .taken) (c .enum-told .given .1) (k .ensures .1 x) ∙ L .inv .2 x)
 
 enum-told-2 : tie.Need-enum-told-2 Inv-loop μ-loop
 enum-told-2 c = search needs
@@ -48,16 +47,16 @@ loop-less c = omega arith
 
 loop-again : tie.Need-loop-again Inv-loop μ-loop
 loop-again c =
-    let s = c .before .before .before .before .before .before .before .before .before .before .args .s .now in
-    let L = c .before .before .before .before .before .before .before .before .loop in
+    let s = c .before .before .before .before .before .before .before .before .args .s .now in
+    let L = c .before .before .before .before .before .before .loop in
     let k = c .before .before .before .read-binding in
-    (omega arith, k .ensures .0, λ x. one-more (k .result .answer) (L .left) (machineBy (graphIn (L .heads) (L .acts) (L .edges) (L .k)) x) (machineBy (graphIn (k .last .1 .0) (k .last .1 .1 .0) (k .last .1 .1 .1 .0) (k .result .counts)) x) (drop (L .at) s) (drop (k .result .at) s) (c .before .before .before .before .before .before .before .loop-test .taken) (c .before .enum-told2 .given .1) (k .ensures .1 x) ∙ L .inv .2 x)
+    (omega arith, k .ensures .0, λ x. one-more (k .result .answer) (L .left) (machineBy (graphIn (L .words) (L .k)) x) (machineBy (graphIn (k .last .1 .0) (k .result .counts)) x) (drop (L .at) s) (drop (k .result .at) s) (c .before .before .before .before .before .loop-test .taken) (c .before .enum-told2 .given .1) (k .ensures .1 x) ∙ L .inv .2 x)
 
 returns-2 : tie.Need-returns-2 Inv-loop μ-loop
 returns-2 c =
     let s = c .before .before .before .args .s .now in
     let L = c .before .loop in
-    (L .inv .1, λ x. none-left (L .left) (machineBy (graphIn (L .heads) (L .acts) (L .edges) (L .k)) x) (drop (L .at) s) (omega arith) ∙ L .inv .2 x)
+    (L .inv .1, λ x. none-left (L .left) (machineBy (graphIn (L .words) (L .k)) x) (drop (L .at) s) (omega arith) ∙ L .inv .2 x)
 
 pub read-bindings-spec : {M : Type 1} → statement M
 read-bindings-spec =

@@ -22,8 +22,8 @@ fresh-requires c κs = search needs
 
 returns : tie.Need-returns
 returns c =
-    let s = c .before .before .before .before .before .before .before .before .before .before .before .before .before .before .before .before .args .s .now in
-    map-refused _ s (come-from s readMachine 0 (file (c .before .before .before .before .before .before .before .before .before .before .before .before .before .before .read-tables .ensures) (c .before .before .before .before .before .before .before .before .before .before .before .before .number .ensures) (comes-refused s (c .before .before .before .before .before .before .before .before .before .before .before .before .number .result .cursor) _ (c .if1 .taken))))
+    let s = c .before .before .before .before .before .before .before .before .before .before .before .before .before .before .args .s .now in
+    map-refused _ s (come-from s readMachine 0 (file (c .before .before .before .before .before .before .before .before .before .before .before .before .read-tables .ensures) (c .before .before .before .before .before .before .before .before .before .before .number .ensures) (comes-refused s (c .before .before .before .before .before .before .before .before .before .before .number .result .cursor) _ (c .if1 .taken))))
 
 read-bindings-requires : tie.Need-read-bindings-requires
 read-bindings-requires c κs = search needs
@@ -33,17 +33,17 @@ at-end-requires c κs = search needs
 
 returns-2 : tie.Need-returns-2
 returns-2 c =
-    let s = c .before .before .before .before .before .before .before .before .before .before .before .before .before .before .before .before .before .before .before .before .before .before .args .s .now in
-    let r = c .before .before .before .before .before .before .before .before .before .before .before .before .before .before .before .before .before .before .before .before .read-tables .result in
+    let s = c .before .before .before .before .before .before .before .before .before .before .before .before .before .before .before .before .before .before .args .s .now in
+    let r = c .before .before .before .before .before .before .before .before .before .before .before .before .before .before .before .before .read-tables .result in
     let t : Tables = tablesOf (r .sizes) (r .classes) (r .modes) (r .rules) in
-    let n = c .before .before .before .before .before .before .before .before .before .before .before .before .before .before .before .before .before .before .number .result .value in
-    let b = c .before .before .before .before .before .before .before .before .before .before .before .before .before .before .before .before .before .before .number .result .cursor in
-    let f = c .before .before .before .before .before .before .before .before .before .before .before .before .fresh .result in
+    let n = c .before .before .before .before .before .before .before .before .before .before .before .before .before .before .number .result .value in
+    let b = c .before .before .before .before .before .before .before .before .before .before .before .before .before .before .number .result .cursor in
+    let f = c .before .before .before .before .before .before .before .before .fresh .result in
     let k = c .before .before .read-bindings in
     map-ended s
     (come-from s readMachine 0
-    (file (c .before .before .before .before .before .before .before .before .before .before .before .before .before .before .before .before .before .before .before .before .read-tables .ensures) (c .before .before .before .before .before .before .before .before .before .before .before .before .before .before .before .before .before .before .number .ensures)
-    (comes-at s b (readBindings n (fresh graphKind t)) (c .before .before .before .before .before .before .if1 .left) (k .ensures .1 (fresh graphKind t .state) ∙ from-fresh n t (graphIn (f .heads) (f .acts) (f .edges) (f .counts)) (drop (b .at) s) (c .before .before .before .before .before .before .before .before .before .before .before .before .fresh .ensures)))))
+    (file (c .before .before .before .before .before .before .before .before .before .before .before .before .before .before .before .before .read-tables .ensures) (c .before .before .before .before .before .before .before .before .before .before .before .before .before .before .number .ensures)
+    (comes-at s b (readBindings n (fresh graphKind t)) (c .before .before .before .before .if1 .left) (k .ensures .1 (fresh graphKind t .state) ∙ from-fresh n t (graphIn (f .words) (f .counts)) (drop (b .at) s) (c .before .before .before .before .before .before .before .before .fresh .ensures)))))
     (c .at-end .ensures _)
 
 pub read-map-spec : {M : Type 1} → statement M

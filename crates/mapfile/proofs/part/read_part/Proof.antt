@@ -1,5 +1,5 @@
 -- A repeat and then an event, read in a row.
-use Rattle.keygraph.specs.View.{partOf}
+use Rattle.keyparts.specs.View.{partOf}
 use Rattle.mapfile.proofs.Rows.{part-read}
 use borrow.Author.Needs.{needs}
 use Rattle.mapfile.proofs.part.read_part.Statement.{statement}

@@ -5,7 +5,7 @@ use mathlib.Core.Path.{_≡_, subst}
 use mathlib.Core.List.{map}
 use lib.ListN.{length, take, length-set}
 use Rattle.rules.specs.MapFile.{times, readPart}
-use Rattle.keygraph.specs.View.{partOf, noPart}
+use Rattle.keyparts.specs.View.{partOf, noPart}
 use Rattle.mapfile.specs.View.{cursorOf, Reads}
 use Rattle.mapfile.proofs.Reading.{Left, left-all, left-none, then}
 use Rattle.mapfile.proofs.Parts.{stored, whole-map}

@@ -8,7 +8,7 @@ use mathlib.Core.List.{List, []}
 use lib.ListN.{length, take}
 use Rattle.rules.specs.Basics.{accept}
 use Rattle.rules.specs.Run.{readKeys}
-use Rattle.keygraph.specs.View.{graphIn}
+use Rattle.keygraph.specs.View.{graphFrom}
 use Rattle.keymachine.specs.Views.{tablesOf, stateOf}
 use Rattle.mapfile.specs.View.{readOf}
 use Rattle.mapfile.proofs.KeyBytes.{onward}
@@ -19,7 +19,7 @@ use Rattle.mapfile.proofs.play.play_keys.Tie as tie
 abbrev Inv-loop : tie.InvT-loop
 Inv-loop keys edges heads acts counts classes modes rules sizes out₀ room budget queue₀ sequences₀ trail₀ state₀ trailed₀ written₀ at₀ out queue sequences trail state trailed written at =
     (written ≤ room) × (length out ≡ length out₀) × ((length queue ≡ 256) × (length sequences ≡ 520) × (length trail ≡ 64))
-    × ((ks : List ℕ) → readKeys keys ≡ accept ks → Playing (graphIn heads acts edges counts) (tablesOf sizes classes modes rules) budget room keys out₀ ks at written (stateOf state (tablesOf sizes classes modes rules) queue sequences (take trailed trail)) out)
+    × ((ks : List ℕ) → readKeys keys ≡ accept ks → Playing (graphFrom heads acts edges counts) (tablesOf sizes classes modes rules) budget room keys out₀ ks at written (stateOf state (tablesOf sizes classes modes rules) queue sequences (take trailed trail)) out)
 
 abbrev μ-loop : tie.MeasureT-loop
 μ-loop keys edges heads acts counts classes modes rules sizes out₀ room budget queue₀ sequences₀ trail₀ state₀ trailed₀ written₀ at₀ out queue sequences trail state trailed written at = length keys - at
@@ -27,7 +27,7 @@ abbrev μ-loop : tie.MeasureT-loop
 loop-holds : tie.Need-loop-holds Inv-loop μ-loop
 loop-holds c =
     let a = c .before .before .before .before .before .before .before .before .args in
-    let G = graphIn (a .heads .now) (a .acts .now) (a .edges .now) (a .counts) in
+    let G = graphFrom (a .heads .now) (a .acts .now) (a .edges .now) (a .counts) in
     let T = tablesOf (a .sizes) (a .classes .now) (a .modes .now) (a .rules .now) in
     let K = a .keys .now in
     (omega arith, refl, (refl, refl, refl), λ ks h. starts G T (a .budget) (a .room) K (a .out .now) [] ks h)
@@ -44,7 +44,7 @@ same-length c = omega (arith, c .before .before .before .before .loop .inv .1)
 returns : tie.Need-returns Inv-loop μ-loop
 returns c =
     let a = c .before .before .before .before .before .before .before .before .before .before .before .before .before .args in
-    let G = graphIn (a .heads .now) (a .acts .now) (a .edges .now) (a .counts) in
+    let G = graphFrom (a .heads .now) (a .acts .now) (a .edges .now) (a .counts) in
     let T = tablesOf (a .sizes) (a .classes .now) (a .modes .now) (a .rules .now) in
     let K = a .keys .now in
     let L = c .before .before .before .before .loop in
@@ -63,7 +63,7 @@ same-length-2 c = omega (arith, c .before .before .before .before .before .befor
 returns-2 : tie.Need-returns-2 Inv-loop μ-loop
 returns-2 c =
     let a = c .before .before .before .before .before .before .before .before .before .before .before .before .before .before .before .before .before .before .before .before .args in
-    let G = graphIn (a .heads .now) (a .acts .now) (a .edges .now) (a .counts) in
+    let G = graphFrom (a .heads .now) (a .acts .now) (a .edges .now) (a .counts) in
     let T = tablesOf (a .sizes) (a .classes .now) (a .modes .now) (a .rules .now) in
     let K = a .keys .now in
     let L = c .before .before .before .before .before .before .before .before .before .before .before .loop in
@@ -92,7 +92,7 @@ same-length-3 c = omega (arith, c .before .before .before .before .before .befor
 returns-3 : tie.Need-returns-3 Inv-loop μ-loop
 returns-3 c =
     let a = c .before .before .before .before .before .before .before .before .before .before .before .before .before .before .before .before .before .before .before .before .before .before .before .before .args in
-    let G = graphIn (a .heads .now) (a .acts .now) (a .edges .now) (a .counts) in
+    let G = graphFrom (a .heads .now) (a .acts .now) (a .edges .now) (a .counts) in
     let T = tablesOf (a .sizes) (a .classes .now) (a .modes .now) (a .rules .now) in
     let K = a .keys .now in
     let L = c .before .before .before .before .before .before .before .before .before .before .before .before .before .before .before .loop in
@@ -115,7 +115,7 @@ store-pairs-requires c κs = omega (arith, c .before .before .before .pairs-size
 loop-less : tie.Need-loop-less Inv-loop μ-loop
 loop-less c =
     let a = c .before .before .before .before .before .before .before .before .before .before .before .before .before .before .before .before .before .before .before .before .before .before .before .before .before .before .before .before .before .before .args in
-    let G = graphIn (a .heads .now) (a .acts .now) (a .edges .now) (a .counts) in
+    let G = graphFrom (a .heads .now) (a .acts .now) (a .edges .now) (a .counts) in
     let T = tablesOf (a .sizes) (a .classes .now) (a .modes .now) (a .rules .now) in
     let K = a .keys .now in
     let L = c .before .before .before .before .before .before .before .before .before .before .before .before .before .before .before .before .before .before .before .before .before .loop in
@@ -127,7 +127,7 @@ loop-less c =
 loop-again : tie.Need-loop-again Inv-loop μ-loop
 loop-again c =
     let a = c .before .before .before .before .before .before .before .before .before .before .before .before .before .before .before .before .before .before .before .before .before .before .before .before .before .before .before .before .before .before .args in
-    let G = graphIn (a .heads .now) (a .acts .now) (a .edges .now) (a .counts) in
+    let G = graphFrom (a .heads .now) (a .acts .now) (a .edges .now) (a .counts) in
     let T = tablesOf (a .sizes) (a .classes .now) (a .modes .now) (a .rules .now) in
     let K = a .keys .now in
     let L = c .before .before .before .before .before .before .before .before .before .before .before .before .before .before .before .before .before .before .before .before .before .loop in
@@ -148,7 +148,7 @@ same-length-4 c = omega (arith, c .before .loop .inv .1)
 returns-4 : tie.Need-returns-4 Inv-loop μ-loop
 returns-4 c =
     let a = c .before .before .before .before .before .before .before .before .before .before .args in
-    let G = graphIn (a .heads .now) (a .acts .now) (a .edges .now) (a .counts) in
+    let G = graphFrom (a .heads .now) (a .acts .now) (a .edges .now) (a .counts) in
     let T = tablesOf (a .sizes) (a .classes .now) (a .modes .now) (a .rules .now) in
     let K = a .keys .now in
     let L = c .before .loop in

@@ -15,11 +15,11 @@ read-actions-requires-2 c κs = search needs
 up-to-requires : tie.Need-up-to-requires
 up-to-requires c κs = search needs
 
-four-of-requires : tie.Need-four-of-requires
-four-of-requires c κs = search needs
+four-word-requires : tie.Need-four-word-requires
+four-word-requires c κs = search needs
 
-four-of-requires-2 : tie.Need-four-of-requires-2
-four-of-requires-2 c κs = search needs
+four-word-requires-2 : tie.Need-four-word-requires-2
+four-word-requires-2 c κs = search needs
 
 cast-t13 : tie.Need-cast-t13
 cast-t13 c = search needs
@@ -47,7 +47,7 @@ returns c =
     let m = c .before .before .before .before .before .before .before .before .before .before .before .before .read-actions in
     let u = c .before .before .before .before .before .before .before .before .before .before .read-actions2 in
     let v = c .before .before .before .before .before .before .before .before .up-to in
-    as-made (entry-words _ _ _ _ _ _ _ (c .before .before .before .before .four-of .ensures) (c .before .before .before .four-of2 .ensures) (m .ensures .0 .0) (u .ensures .0 .0) (v .ensures .0))
+    as-made (entry-words _ _ _ _ _ _ _ (c .before .before .before .before .four-word .ensures) (c .before .before .before .four-word2 .ensures) (m .ensures .0 .0) (u .ensures .0 .0) (v .ensures .0))
     (mode-read (m .ensures .1) (u .ensures .1) (mode-number (v .ensures .1)))
 
 pub read-mode-spec : {M : Type 1} → statement M
@@ -57,8 +57,8 @@ read-mode-spec =
     read-actions-requires
     read-actions-requires-2
     up-to-requires
-    four-of-requires
-    four-of-requires-2
+    four-word-requires
+    four-word-requires-2
     cast-t13
     cast-t14
     cast-t15

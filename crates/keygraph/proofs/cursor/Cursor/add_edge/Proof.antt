@@ -4,10 +4,11 @@ use native.Mathlib.Omega.{arith}
 use mathlib.Core.Path.{refl, _∙_}
 use lib.ListN.{length-set}
 use Prim.Native.Nat.{_+_, _*_}
-use Rattle.keygraph.specs.View.{eventAt, nodesOf, graphIn}
+use Rattle.keyparts.specs.View.{eventAt}
+use Rattle.keygraph.specs.View.{graphIn}
 use Rattle.keygraph.specs.Making.{outcome, resultOf, cursorIn}
 use Rattle.keygraph.proofs.Cursors.{starts, stays, edge-leads}
-use Rattle.keygraph.proofs.Finds.{edge-replaced, edge-appended, edge-full}
+use Rattle.keygraph.proofs.Places.{edge-put, edge-more, edge-none}
 use borrow.Author.Needs.{needs}
 use Rattle.keygraph.proofs.cursor.Cursor.add_edge.Statement.{statement}
 use Rattle.keygraph.proofs.cursor.Cursor.add_edge.Tie as tie
@@ -30,29 +31,29 @@ add-w c = search needs
 cast-if2 : tie.Need-cast-if2
 cast-if2 c = search needs
 
-mul-edges : tie.Need-mul-edges
-mul-edges c = search needs
+mul-words : tie.Need-mul-words
+mul-words c = search needs
 
-element-write-edges : tie.Need-element-write-edges
-element-write-edges c = search needs
+element-write-words : tie.Need-element-write-words
+element-write-words c = search needs
 
 returns : tie.Need-returns
 unfolding resultOf outcome
 returns c = let a = c .before .before .before .before .before .before .before .before .args in let s = a .self in let e = c .before .before .before .before .before .before .before .before .pre in (
-  length-set (a .edges .now) (c .before .scan .result) _ ∙ e,
-  λ hs ws. starts (s .refusal) (cursorIn hs ws (a .edges .now) s) (c .before .before .before .before .before .before .if1 .taken)
-      (edge-leads (s .refusal) (graphIn hs ws (a .edges .now) (s .counts)) _ (s .prev) (s .owed) (a .from) (a .to) (eventAt (a .code))
-      (rw (c .before .before .before .before .before .before .if1 .taken) (edge-replaced (nodesOf hs ws (s .counts .nodes)) (s .counts .edges) (a .edges .now) (a .from) (a .code) (a .to) (c .before .before .before .before .before .least-of .result) (c .before .scan .result) _ (search needs) (search needs) e (c .before .before .before .before .before .least-of .ensures) (rw (c .before .before .before .before .key-of .ensures .0) at (c .before .scan .ensures)) (omega arith) (c .if2 .taken)))),
+  length-set (a .words .now) (c .before .scan .result) _ ∙ e,
+  starts (s .refusal) (cursorIn (a .words .now) s) (c .before .before .before .before .before .before .if1 .taken)
+      (edge-leads (s .refusal) (graphIn (a .words .now) (s .counts)) _ (s .prev) (s .owed) (a .from) (a .to) (eventAt (a .code))
+      (rw (c .before .before .before .before .before .before .if1 .taken) (edge-put (a .words .now) (s .counts) (a .from) (a .code) (a .to) (c .before .before .before .before .before .least-of .result) (c .before .scan .result) _ (search needs) (search needs) e (c .before .before .before .before .before .least-of .ensures) (rw (c .before .before .before .before .key-of .ensures .0) at (c .before .scan .ensures)) (omega arith) (c .if2 .taken)))),
 )
 
 cast-j : tie.Need-cast-j
 cast-j c = search needs
 
-mul-edges-2 : tie.Need-mul-edges-2
-mul-edges-2 c = search needs
+mul-words-2 : tie.Need-mul-words-2
+mul-words-2 c = search needs
 
-element-write-edges-2 : tie.Need-element-write-edges-2
-element-write-edges-2 c = search needs
+element-write-words-2 : tie.Need-element-write-words-2
+element-write-words-2 c = search needs
 
 add-with-edges : tie.Need-add-with-edges
 add-with-edges c = search needs
@@ -63,10 +64,10 @@ with-edges-requires c κs = search needs
 returns-2 : tie.Need-returns-2
 unfolding resultOf outcome
 returns-2 c = let a = c .before .before .before .before .before .before .before .before .before .before .args in let s = a .self in let e = c .before .before .before .before .before .before .before .before .before .before .pre in (
-  length-set (a .edges .now) (c .before .before .before .before .before .before .before .least-of .result) _ ∙ e,
-  λ hs ws. rw (c .with-edges .ensures) (starts (s .refusal) (cursorIn hs ws (a .edges .now) s) (c .before .before .before .before .before .before .before .before .if1 .taken)
-      (edge-leads (s .refusal) (graphIn hs ws (a .edges .now) (s .counts)) _ (s .prev) (s .owed) (a .from) (a .to) (eventAt (a .code))
-      (rw (c .before .before .before .before .before .before .before .before .if1 .taken) (edge-appended (nodesOf hs ws (s .counts .nodes)) (s .counts .edges) (a .edges .now) (a .from) (a .code) (a .to) (c .before .before .before .before .before .before .before .least-of .result) (c .before .before .before .scan .result) _ (search needs) (search needs) e (c .before .before .before .before .before .before .before .least-of .ensures) (rw (c .before .before .before .before .before .before .key-of .ensures .0) at (c .before .before .before .scan .ensures)) (omega arith) (c .before .before .if2 .left) (c .before .if3 .taken))))),
+  length-set (a .words .now) (c .before .before .before .before .before .before .before .least-of .result) _ ∙ e,
+  rw (c .with-edges .ensures) (starts (s .refusal) (cursorIn (a .words .now) s) (c .before .before .before .before .before .before .before .before .if1 .taken)
+      (edge-leads (s .refusal) (graphIn (a .words .now) (s .counts)) _ (s .prev) (s .owed) (a .from) (a .to) (eventAt (a .code))
+      (rw (c .before .before .before .before .before .before .before .before .if1 .taken) (edge-more (a .words .now) (s .counts) (a .from) (a .code) (a .to) (c .before .before .before .before .before .before .before .least-of .result) (c .before .before .before .scan .result) _ (search needs) (search needs) e (c .before .before .before .before .before .before .before .least-of .ensures) (rw (c .before .before .before .before .before .before .key-of .ensures .0) at (c .before .before .before .scan .ensures)) (omega arith) (c .before .before .if2 .left) (c .before .if3 .taken))))),
 )
 
 refused-requires : tie.Need-refused-requires
@@ -76,15 +77,14 @@ returns-3 : tie.Need-returns-3
 unfolding resultOf outcome
 returns-3 c = let a = c .before .before .before .before .before .before .before .before .before .before .args in let s = a .self in let e = c .before .before .before .before .before .before .before .before .before .before .pre in (
   e,
-  λ hs ws. rw (c .refused .ensures) (starts (s .refusal) (cursorIn hs ws (a .edges .now) s) (c .before .before .before .before .before .before .before .before .if1 .taken)
-      (edge-leads 3 (graphIn hs ws (a .edges .now) (s .counts)) (graphIn hs ws (a .edges .now) (s .counts)) (s .prev) (s .owed) (a .from) (a .to) (eventAt (a .code))
-      (edge-full (nodesOf hs ws (s .counts .nodes)) (s .counts .edges) (a .edges .now) (a .from) (a .code) (a .to) (c .before .before .before .before .before .before .before .least-of .result) (c .before .before .before .scan .result) (a .to + 65536 * (a .from + a .code * 65536)) (search needs) (search needs) e (c .before .before .before .before .before .before .before .least-of .ensures) (rw (c .before .before .before .before .before .before .key-of .ensures .0) at (c .before .before .before .scan .ensures)) refl (c .before .before .if2 .left) (c .before .if3 .left)))),
+  rw (c .refused .ensures) (starts (s .refusal) (cursorIn (a .words .now) s) (c .before .before .before .before .before .before .before .before .if1 .taken)
+      (edge-leads 3 (graphIn (a .words .now) (s .counts)) (graphIn (a .words .now) (s .counts)) (s .prev) (s .owed) (a .from) (a .to) (eventAt (a .code))
+      (edge-none (a .words .now) (s .counts) (a .from) (a .code) (a .to) (c .before .before .before .before .before .before .before .least-of .result) (c .before .before .before .scan .result) (a .to + 65536 * (a .from + a .code * 65536)) (search needs) (search needs) e (c .before .before .before .before .before .before .before .least-of .ensures) (rw (c .before .before .before .before .before .before .key-of .ensures .0) at (c .before .before .before .scan .ensures)) refl (c .before .before .if2 .left) (c .before .if3 .left)))),
 )
 
 returns-4 : tie.Need-returns-4
 unfolding outcome
-returns-4 c = let a = c .before .before .args in let s = a .self in
-    (c .before .before .pre, λ hs ws. stays (s .refusal) (cursorIn hs ws (a .edges .now) s) (cursorIn hs ws (a .edges .now) s) (c .if1 .left))
+returns-4 c = let a = c .before .before .args in let s = a .self in (c .before .before .pre, stays (s .refusal) (cursorIn (a .words .now) s) (cursorIn (a .words .now) s) (c .if1 .left))
 
 pub add-edge-spec : {M : Type 1} → statement M
 add-edge-spec =
@@ -96,12 +96,12 @@ add-edge-spec =
     mul-w
     add-w
     cast-if2
-    mul-edges
-    element-write-edges
+    mul-words
+    element-write-words
     returns
     cast-j
-    mul-edges-2
-    element-write-edges-2
+    mul-words-2
+    element-write-words-2
     add-with-edges
     with-edges-requires
     returns-2

@@ -1,7 +1,8 @@
 -- An edge that is there is followed, and else the part is made by its repeat: the two clauses of `goOn`.
 use Rattle.rules.specs.Graph.{addIntermediate, goOn}
 use mathlib.Core.Path.{ap, sym, _∙_}
-use Rattle.keygraph.specs.View.{partOf, maybeOf, nodesOf}
+use Rattle.keyparts.specs.View.{partOf, maybeOf, nodesOf}
+use Rattle.keygraph.specs.View.{headWords, actWords}
 use Rattle.keygraph.proofs.Cursors.{restates-in}
 use borrow.Author.Needs.{needs}
 use Rattle.keygraph.proofs.cursor.Cursor.add_intermediate.Statement.{statement}
@@ -27,23 +28,13 @@ add-repeat-requires c κs = search needs
 
 returns : tie.Need-returns
 unfolding addIntermediate goOn partOf
-returns c = let a = c .before .before .before .before .before .before .before .before .args in let h = rw (c .before .before .before .before .before .before .before .code .ensures) at (sym (c .before .before .before .before .get-edge .ensures (nodesOf (a .heads .now) (a .acts .now) (a .self .counts .nodes))) ∙ ap maybeOf (c .before .before .e .given .1)) in
-    (c .before .before .before .before .before .before .before .before .pre .1, restates-in (a .heads .now) (a .acts .now) (a .edges .now) (a .self) (addIntermediate (a .mode) (partOf (a .part))) (rw h) (c .go .ensures _ _ _))
+returns c = let a = c .before .before .before .before .before .before .before .before .args in let h = rw (c .before .before .before .before .before .before .before .code .ensures) at (sym (c .before .before .before .before .get-edge .ensures (nodesOf (headWords (a .words .now)) (actWords (a .words .now)) (a .self .counts .nodes))) ∙ ap maybeOf (c .before .before .e .given .1)) in
+    (c .before .before .before .before .before .before .before .before .pre .1, restates-in (a .words .now) (a .self) (addIntermediate (a .mode) (partOf (a .part))) (rw h) (c .go .ensures _))
 
 returns-2 : tie.Need-returns-2
 unfolding addIntermediate goOn partOf
-returns-2 c = let a = c .before .before .before .before .before .before .before .before .before .before .args in let h = rw (c .before .before .before .before .before .before .before .before .before .code .ensures) at (sym (c .before .before .before .before .before .before .get-edge .ensures (nodesOf (a .heads .now) (a .acts .now) (a .self .counts .nodes))) ∙ ap maybeOf (c .before .before .before .before .enum-told .given .1)) in
-    (c .add-repeat .ensures .0, restates-in (a .heads .now) (a .acts .now) (a .edges .now) (a .self) (addIntermediate (a .mode) (partOf (a .part))) (rw (h, c .before .before .before .before .before .before .before .before .before .code .ensures)) (c .add-repeat .ensures .1))
+returns-2 c = let a = c .before .before .before .before .before .before .before .before .args in let h = rw (c .before .before .before .before .before .before .before .code .ensures) at (sym (c .before .before .before .before .get-edge .ensures (nodesOf (headWords (a .words .now)) (actWords (a .words .now)) (a .self .counts .nodes))) ∙ ap maybeOf (c .before .before .enum-told .given .1)) in
+    (c .add-repeat .ensures .0, restates-in (a .words .now) (a .self) (addIntermediate (a .mode) (partOf (a .part))) (rw (h, c .before .before .before .before .before .before .before .code .ensures)) (c .add-repeat .ensures .1))
 
 pub add-intermediate-spec : {M : Type 1} → statement M
-add-intermediate-spec =
-    tie.close
-    (tie.spec
-    code-requires
-    get-edge-requires
-    enum-known-e
-    go-requires
-    enum-told
-    add-repeat-requires
-    returns
-    returns-2)
+add-intermediate-spec = tie.close (tie.spec code-requires get-edge-requires enum-known-e go-requires enum-told add-repeat-requires returns returns-2)

@@ -1,6 +1,6 @@
 -- An edge from where the cursor stands is one between that node and the end.
 use mathlib.Core.Path.{refl}
-use Rattle.keygraph.specs.View.{eventAt}
+use Rattle.keyparts.specs.View.{eventAt}
 use Rattle.keygraph.specs.Making.{outcome, cursorIn}
 use Rattle.rules.specs.Graph.{edgeTo, edgeBetween}
 use Rattle.keygraph.proofs.Cursors.{restates}
@@ -14,7 +14,7 @@ add-edge-requires c κs = search needs
 returns : tie.Need-returns
 unfolding edgeTo edgeBetween outcome
 returns c = let a = c .before .before .args in let s = a .self in
-    (c .add-edge .ensures .0, λ hs ws. restates (s .refusal) (cursorIn hs ws (a .edges .now) s) (edgeTo (a .to) (eventAt (a .code))) refl (c .add-edge .ensures .1 hs ws))
+    (c .add-edge .ensures .0, restates (s .refusal) (cursorIn (a .words .now) s) (edgeTo (a .to) (eventAt (a .code))) refl (c .add-edge .ensures .1))
 
 pub edge-to-spec : {M : Type 1} → statement M
 edge-to-spec = tie.close (tie.spec add-edge-requires returns)

@@ -9,7 +9,7 @@ use Rattle.keygraph.proofs.cursor.Cursor.go.Tie as tie
 
 returns : tie.Need-returns
 unfolding outcome
-returns c = let a = c .before .args in let s = a .self in λ hs ws es. alters (s .refusal) (cursorIn hs ws es s) (cursor (graphIn hs ws es (s .counts)) (a .node) (s .owed)) refl
+returns c = let a = c .before .args in let s = a .self in λ ws. alters (s .refusal) (cursorIn ws s) (cursor (graphIn ws (s .counts)) (a .node) (s .owed)) refl
 
 pub go-spec : {M : Type 1} → statement M
 go-spec = tie.close (tie.spec returns)

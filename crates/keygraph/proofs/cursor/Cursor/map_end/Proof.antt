@@ -1,6 +1,7 @@
 -- The last part, and then the Fallthrough edge of the step: the clause of `mapPath` for one part.
 use Rattle.rules.specs.Graph.{mapPath}
-use Rattle.keygraph.specs.View.{partOf, stepOf}
+use Rattle.keyparts.specs.View.{partOf, stepOf}
+use Rattle.keyparts.proofs.Words.{mode-fits}
 use Rattle.keygraph.proofs.Binds.{then}
 use borrow.Author.Needs.{needs}
 use Rattle.keygraph.proofs.cursor.Cursor.map_end.Statement.{statement}
@@ -9,15 +10,18 @@ use Rattle.keygraph.proofs.cursor.Cursor.map_end.Tie as tie
 code-requires : tie.Need-code-requires
 code-requires c κs = search needs
 
+pack-requires : tie.Need-pack-requires
+pack-requires c κs = search needs
+
 map-last-requires : tie.Need-map-last-requires
-map-last-requires c κs = search needs
+map-last-requires c κs = c .before .before .before .pre
 
 map-fall-requires : tie.Need-map-fall-requires
-map-fall-requires c κs = c .before .map-last .ensures .0 .edges
+map-fall-requires c κs = c .before .map-last .ensures .0
 
 returns : tie.Need-returns
 unfolding mapPath partOf stepOf
-returns c = (record { heads = c .before .before .map-last .ensures .0 .heads; acts = c .before .before .map-last .ensures .0 .acts; edges = c .map-fall .ensures .0 }, then (rw (c .before .before .before .before .before .before .code .ensures) at (c .before .before .map-last .ensures .1)) (c .map-fall .ensures .1 _ _))
+returns c = (c .map-fall .ensures .0, then (rw (c .before .before .before .before .before .code .ensures) at (c .before .before .map-last .ensures .1 _ (rw (mode-fits _ (c .before .before .before .before .before .before .pre .0)) at (c .before .before .before .before .pack .ensures)))) (c .map-fall .ensures .1))
 
 pub map-end-spec : {M : Type 1} → statement M
-map-end-spec = tie.close (tie.spec code-requires map-last-requires map-fall-requires returns)
+map-end-spec = tie.close (tie.spec code-requires pack-requires map-last-requires map-fall-requires returns)

@@ -1,7 +1,7 @@
 -- By whether the step names a mode.
 use Rattle.rules.specs.Graph.{mapFall}
 use Rattle.keygraph.specs.Making.{outcome}
-use Rattle.keygraph.proofs.Words.{event-fall}
+use Rattle.keyparts.proofs.Words.{event-fall}
 use Rattle.keygraph.proofs.Binds.{leads-same}
 use borrow.Author.Needs.{needs}
 use Rattle.keygraph.proofs.cursor.Cursor.map_fall.Statement.{statement}
@@ -18,11 +18,11 @@ enum-told c = search needs
 
 returns : tie.Need-returns
 unfolding mapFall
-returns c = (c .edge-to .ensures .0, λ hs ws. rw (c .before .before .before .fall .given .1) (rw event-fall at (c .edge-to .ensures .1 hs ws)))
+returns c = (c .edge-to .ensures .0, rw (c .before .before .before .fall .given .1) (rw event-fall at (c .edge-to .ensures .1)))
 
 returns-2 : tie.Need-returns-2
 unfolding mapFall
-returns-2 c = let a = c .before .before .args in (c .before .before .pre, λ hs ws. rw (c .enum-told .given .1) (leads-same (outcome hs ws (a .edges .now) (a .self))))
+returns-2 c = let a = c .before .before .args in (c .before .before .pre, rw (c .enum-told .given .1) (leads-same (outcome (a .words .now) (a .self))))
 
 pub map-fall-spec : {M : Type 1} → statement M
 map-fall-spec = tie.close (tie.spec enum-known-fall edge-to-requires enum-told returns returns-2)

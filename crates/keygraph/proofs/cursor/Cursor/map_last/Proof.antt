@@ -1,4 +1,5 @@
 -- By the repeat, as `mapLast`.
+use Rattle.rules.specs.Graph.{mapLast}
 use borrow.Author.Needs.{needs}
 use Rattle.keygraph.proofs.cursor.Cursor.map_last.Statement.{statement}
 use Rattle.keygraph.proofs.cursor.Cursor.map_last.Tie as tie
@@ -6,8 +7,8 @@ use Rattle.keygraph.proofs.cursor.Cursor.map_last.Tie as tie
 enum-told : tie.Need-enum-told
 enum-told c = search needs
 
-map-once-requires : tie.Need-map-once-requires
-map-once-requires c κs = search needs
+add-simple-step-requires : tie.Need-add-simple-step-requires
+add-simple-step-requires c κs = search needs
 
 enum-known-repeat : tie.Need-enum-known-repeat
 enum-known-repeat c = search needs
@@ -22,24 +23,14 @@ map-max-requires : tie.Need-map-max-requires
 map-max-requires c κs = search needs
 
 returns : tie.Need-returns
-returns c = (c .map-once .ensures .0, rw (c .before .before .before .before .enum-told .given .1) (c .map-once .ensures .1))
+unfolding mapLast
+returns c = (c .add-simple-step .ensures .0, λ s e. rw (c .before .before .enum-told .given .1) (rw e at (c .add-simple-step .ensures .1)))
 
 returns-2 : tie.Need-returns-2
-returns-2 c = (c .map-min .ensures .0, rw (c .before .before .before .before .before .repeat .given .1) (c .map-min .ensures .1))
+returns-2 c = (c .map-min .ensures .0, λ s e. rw (c .before .before .before .repeat .given .1) (c .map-min .ensures .1 s e))
 
 returns-3 : tie.Need-returns-3
-returns-3 c = (c .map-max .ensures .0, rw (c .before .before .before .before .before .repeat2 .given .1) (c .map-max .ensures .1))
+returns-3 c = (c .map-max .ensures .0, λ s e. rw (c .before .before .before .repeat2 .given .1) (c .map-max .ensures .1 s e))
 
 pub map-last-spec : {M : Type 1} → statement M
-map-last-spec =
-    tie.close
-    (tie.spec
-    enum-told
-    map-once-requires
-    enum-known-repeat
-    map-min-requires
-    enum-known-repeat-2
-    map-max-requires
-    returns
-    returns-2
-    returns-3)
+map-last-spec = tie.close (tie.spec enum-told add-simple-step-requires enum-known-repeat map-min-requires enum-known-repeat-2 map-max-requires returns returns-2 returns-3)

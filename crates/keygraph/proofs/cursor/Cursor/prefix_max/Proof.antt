@@ -1,33 +1,38 @@
 -- The test of `prefixLast` at Max, and else its chain.
+use mathlib.Core.Path.{sym, _∙_}
 use Rattle.rules.specs.Graph.{prefixLast}
-use borrow.Author.Tests.{eq-eqb, ne-eqb}
-use Rattle.rules.specs.Values.{Max}
-use Rattle.keygraph.specs.View.{eventAt, chosenOf, stepOf}
-use Rattle.keygraph.specs.Making.{maxPrefix, outcome, cursorIn}
-use Rattle.keygraph.proofs.Cursors.{restates-in, alters-in}
+use Rattle.keyparts.specs.View.{eventAt}
+use Rattle.keygraph.specs.Making.{outcome, cursorIn}
+use Rattle.keygraph.proofs.Binds.{then, with}
+use Rattle.keygraph.proofs.Cursors.{alters-in, max-prefixes, to-falls, between-falls}
 use borrow.Author.Needs.{needs}
 use Rattle.keygraph.proofs.cursor.Cursor.prefix_max.Statement.{statement}
 use Rattle.keygraph.proofs.cursor.Cursor.prefix_max.Tie as tie
 
+is-nothing-requires : tie.Need-is-nothing-requires
+is-nothing-requires c κs = search needs
+
 returns : tie.Need-returns
 unfolding prefixLast outcome
-returns c = let a = c .before .before .args in (c .before .before .pre .1, alters-in (a .heads .now) (a .acts .now) (a .edges .now) (a .self) (cursorIn (a .heads .now) (a .acts .now) (a .edges .now) (a .self)) (rw (c .before .if1 .taken, eq-eqb (a .n) 0 (c .if2 .taken))))
+returns c = let a = c .before .before .args in (c .before .before .pre .1, λ os e. alters-in (a .words .now) (a .self) (cursorIn (a .words .now) (a .self)) (rw (sym (c .before .is-nothing .ensures) ∙ c .if1 .taken)))
 
-prefix-max-some-requires : tie.Need-prefix-max-some-requires
-prefix-max-some-requires c κs = search needs
+add-node-requires : tie.Need-add-node-requires
+add-node-requires c κs = c .before .before .before .pre .1
+
+edge-to-requires : tie.Need-edge-to-requires
+edge-to-requires c κs = c .before .before .add-node .ensures .0
+
+add-edge-requires : tie.Need-add-edge-requires
+add-edge-requires c κs = c .before .edge-to .ensures .0
+
+add-max-requires : tie.Need-add-max-requires
+add-max-requires c κs = (c .before .before .before .before .before .before .before .before .before .before .pre .0, c .before .add-edge .ensures .0)
 
 returns-2 : tie.Need-returns-2
-unfolding prefixLast maxPrefix
-returns-2 c = let a = c .before .before .before .before .before .before .args in (c .prefix-max-some .ensures .0, restates-in (a .heads .now) (a .acts .now) (a .edges .now) (a .self) (prefixLast (a .mode) (a .single) (Max (a .n)) (eventAt (a .code)) (chosenOf (a .chosen) (stepOf (a .step)))) (rw (c .before .before .before .before .before .if1 .taken, ne-eqb (a .n) 0 (c .before .before .before .before .if2 .left))) (c .prefix-max-some .ensures .1))
-
-prefix-max-some-requires-2 : tie.Need-prefix-max-some-requires-2
-prefix-max-some-requires-2 c κs = search needs
-
-returns-3 : tie.Need-returns-3
-unfolding prefixLast maxPrefix
-returns-3 c = let a = c .before .before .before .before .before .args in (c .prefix-max-some2 .ensures .0, restates-in (a .heads .now) (a .acts .now) (a .edges .now) (a .self) (prefixLast (a .mode) (a .single) (Max (a .n)) (eventAt (a .code)) (chosenOf (a .chosen) (stepOf (a .step)))) (rw (c .before .before .before .before .if1 .left)) (c .prefix-max-some2 .ensures .1))
+returns-2 c = let a = c .before .before .before .before .before .before .before .before .before .before .before .args in (
+  c .add-max .ensures .0,
+  λ os e. max-prefixes (a .mode) (eventAt (a .code)) (a .n) (a .single) os (sym (c .before .before .before .before .before .before .before .before .before .before .is-nothing .ensures) ∙ c .before .before .before .before .before .before .before .before .before .if1 .left) (with _ (rw e at (c .before .before .before .before .before .before .before .add-node .ensures .1)) (then (to-falls _ (c .before .before .before .before .edge-to .ensures .1)) (then (between-falls _ _ (c .before .before .add-edge .ensures .1)) (c .add-max .ensures .1)))),
+)
 
 pub prefix-max-spec : {M : Type 1} → statement M
-prefix-max-spec =
-    tie.close
-    (tie.spec returns prefix-max-some-requires returns-2 prefix-max-some-requires-2 returns-3)
+prefix-max-spec = tie.close (tie.spec is-nothing-requires returns add-node-requires edge-to-requires add-edge-requires add-max-requires returns-2)

@@ -1,6 +1,7 @@
 -- By whether the cursor's node has an edge for the event, as `upsertAt`.
 use mathlib.Core.Path.{ap, sym, _∙_}
-use Rattle.keygraph.specs.View.{eventAt, nodesOf, packedOf, maybeOf}
+use Rattle.keyparts.specs.View.{eventAt, nodesOf, packedOf, maybeOf}
+use Rattle.keygraph.specs.View.{headWords, actWords}
 use Rattle.keygraph.specs.Making.{outcome, cursorIn}
 use Rattle.keygraph.specs.Making.{upserted}
 use Rattle.keygraph.proofs.Cursors.{restates-made, upsert-there, upsert-new}
@@ -26,12 +27,12 @@ add-node-requires c κs = search needs
 returns : tie.Need-returns
 unfolding outcome
 returns c = let a = c .before .before .before .before .before .before .before .before .args in let s = a .self in
-    (c .settle .ensures .0, restates-made (s .refusal) (cursorIn (a .heads .now) (a .acts .now) (a .edges .now) s) (upserted (packedOf (a .p) .mode) (eventAt (a .code)) (packedOf (a .p) .action)) (upsert-there (cursorIn (a .heads .now) (a .acts .now) (a .edges .now) s) (packedOf (a .p) .mode) (eventAt (a .code)) (packedOf (a .p) .action) _ (sym (ap maybeOf (c .before .before .before .before .e .given .1)) ∙ c .before .before .before .before .before .before .get-edge .ensures (nodesOf (a .heads .now) (a .acts .now) (s .counts .nodes)))) (c .settle .ensures .1 (a .edges .now)))
+    (c .settle .ensures .0, restates-made (s .refusal) (cursorIn (a .words .now) s) (upserted (packedOf (a .p) .mode) (eventAt (a .code)) (packedOf (a .p) .action)) (upsert-there (cursorIn (a .words .now) s) (packedOf (a .p) .mode) (eventAt (a .code)) (packedOf (a .p) .action) _ (sym (ap maybeOf (c .before .before .before .e .given .1)) ∙ c .before .before .before .before .before .get-edge .ensures (nodesOf (headWords (a .words .now)) (actWords (a .words .now)) (s .counts .nodes)))) (c .settle .ensures .1))
 
 returns-2 : tie.Need-returns-2
 unfolding outcome
 returns-2 c = let a = c .before .before .before .before .before .before .before .args in let s = a .self in
-    (c .add-node .ensures .0, restates-made (s .refusal) (cursorIn (a .heads .now) (a .acts .now) (a .edges .now) s) (upserted (packedOf (a .p) .mode) (eventAt (a .code)) (packedOf (a .p) .action)) (upsert-new (cursorIn (a .heads .now) (a .acts .now) (a .edges .now) s) (packedOf (a .p) .mode) (eventAt (a .code)) (packedOf (a .p) .action) (sym (ap maybeOf (c .before .before .before .enum-told .given .1)) ∙ c .before .before .before .before .before .get-edge .ensures (nodesOf (a .heads .now) (a .acts .now) (s .counts .nodes)))) (c .add-node .ensures .1 (a .edges .now)))
+    (c .add-node .ensures .0, restates-made (s .refusal) (cursorIn (a .words .now) s) (upserted (packedOf (a .p) .mode) (eventAt (a .code)) (packedOf (a .p) .action)) (upsert-new (cursorIn (a .words .now) s) (packedOf (a .p) .mode) (eventAt (a .code)) (packedOf (a .p) .action) (sym (ap maybeOf (c .before .before .enum-told .given .1)) ∙ c .before .before .before .before .get-edge .ensures (nodesOf (headWords (a .words .now)) (actWords (a .words .now)) (s .counts .nodes)))) (c .add-node .ensures .1))
 
 pub upsert-node-spec : {M : Type 1} → statement M
 upsert-node-spec =

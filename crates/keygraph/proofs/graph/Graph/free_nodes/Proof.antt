@@ -1,5 +1,9 @@
 -- `free_nodes` at the graph's own count.
 use borrow.Author.Needs.{needs}
+use mathlib.Core.Path.{_≡_}
+use lib.ListN.{length}
+use Rattle.keygraph.specs.View.{headWords, actWords}
+use Rattle.keygraph.proofs.Places.{heads-length, acts-length}
 use Rattle.keygraph.proofs.graph.Graph.free_nodes.Statement.{statement}
 use Rattle.keygraph.proofs.graph.Graph.free_nodes.Tie as tie
 
@@ -7,7 +11,7 @@ free-nodes-requires : tie.Need-free-nodes-requires
 free-nodes-requires c κs = search needs
 
 returns : tie.Need-returns
-returns c = let s = c .before .args .self in c .free-nodes .ensures (s .heads) (s .acts) _ (search needs) (search needs)
+returns c = let ws = c .before .args .self .words in let e : length ws ≡ 4128 = search needs in c .free-nodes .ensures (headWords ws) (actWords ws) _ (heads-length ws e) (acts-length ws e)
 
 pub free-nodes-spec : {M : Type 1} → statement M
 free-nodes-spec = tie.close (tie.spec free-nodes-requires returns)

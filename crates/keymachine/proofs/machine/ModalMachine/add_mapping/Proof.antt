@@ -1,5 +1,6 @@
 -- The graph answers as the rules' adding does, and all else of the machine stays.
-use Rattle.keygraph.specs.View.{graphOf, answerOf, wholePath, wholeStep}
+use Rattle.keyparts.specs.View.{wholePath, wholeStep}
+use Rattle.keygraph.specs.View.{graphOf, answerOf}
 use Rattle.keymachine.specs.Views.{machineOf}
 use Rattle.keymachine.proofs.Calls.{mapped}
 use borrow.Author.Needs.{needs}

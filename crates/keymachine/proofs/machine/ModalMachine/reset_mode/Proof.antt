@@ -1,7 +1,8 @@
 -- Breaking all sequences and entering mode 0 is `resetMode`; the trail is not touched.
 use mathlib.Core.Path.{_≡_, refl}
 use lib.ListN.{take}
-use Rattle.keygraph.specs.View.{graphOf, classesOf}
+use Rattle.keyparts.specs.View.{classesOf}
+use Rattle.keygraph.specs.View.{graphOf}
 use Rattle.keymachine.specs.Views.{outcome, machineOf, stateOf, wordsOf, contextOf, pairsOf, trackersOf}
 use Rattle.keymachine.proofs.Calls.{reset-refused, reset-done, reset-is}
 use borrow.Author.Needs.{needs}

@@ -1,7 +1,7 @@
 -- Counts of 0 take no entries.
 use mathlib.Core.Path.{_≡_, refl}
 use Rattle.rules.specs.Tables.{noTables}
-use Rattle.keygraph.specs.View.{fit}
+use Rattle.keyparts.specs.View.{fit}
 use Rattle.keymachine.specs.Views.{wholeTables}
 use Rattle.keymachine.proofs.tables.Tables.empty.Statement.{statement}
 use Rattle.keymachine.proofs.tables.Tables.empty.Tie as tie

@@ -8,7 +8,7 @@ use lib.ListN.{length, take, drop, set, length-set}
 use borrow.Author.Needs.{needs}
 use Rattle.rules.specs.Basics.{every}
 use Rattle.rules.specs.Tables.{modeValid, ModeEntry}
-use Rattle.keygraph.specs.declared.step.Maybe.the-variants.{Nothing}
+use Rattle.keyparts.specs.declared.step.Maybe.the-variants.{Nothing}
 use Rattle.keymachine.specs.declared.tables.ModeEntry as raw
 use Rattle.keymachine.specs.Views.{wholeEntry, entryOf, blocks}
 use Rattle.keymachine.proofs.Lists.{length-mapped, length-blocks}

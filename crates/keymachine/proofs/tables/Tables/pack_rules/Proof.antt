@@ -9,7 +9,7 @@ use lib.ListN.{length, take, drop, set, length-set}
 use borrow.Author.Needs.{needs}
 use Rattle.rules.specs.Basics.{every}
 use Rattle.rules.specs.Tables.{ruleValid}
-use Rattle.keygraph.specs.View.{classAt}
+use Rattle.keyparts.specs.View.{classAt}
 use Rattle.keymachine.specs.Views.{ruleBy, ruleOf}
 use Rattle.keymachine.proofs.Lists.{length-mapped}
 use Rattle.keymachine.proofs.Packs.{never, every-on, every-stop, every-end, pack-on, pack-end, view-at, view-long}

@@ -1,0 +1,91 @@
+//! Our side: the exported run, the crate `bench`, and the machine that is lent to each call where its archive is linked.
+
+use crate::inputs::{numbers, BUDGET};
+use crate::sum::Sum;
+
+extern "C" {
+    fn keymap_run(
+        map: *const u8,
+        map_count: usize,
+        keys: *const u8,
+        keys_count: usize,
+        output: *mut u8,
+        output_count: usize,
+        budget: u16,
+    ) -> u64;
+    fn bench_keys_in_place(map: *const u8, map_count: usize, keys: *const u16, keys_count: usize, budget: u16) -> u64;
+    fn bench_keys_by_value(map: *const u8, map_count: usize, keys: *const u16, keys_count: usize, budget: u16) -> u64;
+    fn bench_other_calls(map: *const u8, map_count: usize) -> u32;
+}
+
+/// The run's result; its pairs stand in the output.
+pub fn run(map: &[u8], keys: &[u8], output: &mut [u8]) -> u64 {
+    unsafe { keymap_run(map.as_ptr(), map.len(), keys.as_ptr(), keys.len(), output.as_mut_ptr(), output.len(), BUDGET) }
+}
+
+/// What the pairs of a run came to, or its refusal.
+pub fn sum_of_run(result: u64, output: &[u8]) -> Result<Sum, u64> {
+    if result % 32 != 0 {
+        return Err(result % 32);
+    }
+    let mut sum = Sum::default();
+    for pair in numbers(&output[..(result / 32) as usize]).chunks(3) {
+        sum.add(pair[0], pair[1], pair[2]);
+    }
+    Ok(sum)
+}
+
+pub fn in_place(map: &[u8], keys: &[u16]) -> Sum {
+    Sum::of_word(unsafe { bench_keys_in_place(map.as_ptr(), map.len(), keys.as_ptr(), keys.len(), BUDGET) })
+}
+
+pub fn by_value(map: &[u8], keys: &[u16]) -> Sum {
+    Sum::of_word(unsafe { bench_keys_by_value(map.as_ptr(), map.len(), keys.as_ptr(), keys.len(), BUDGET) })
+}
+
+/// Map, prefix, repeat, reset, find and hint by value, once each: the node of the mapping that was added, and the nodes that
+/// are left.
+pub fn other_calls(map: &[u8]) -> (u16, u16) {
+    let answer = unsafe { bench_other_calls(map.as_ptr(), map.len()) };
+    (answer as u16, (answer >> 16) as u16)
+}
+
+/// Calls on one machine that is lent: `--cfg host` says that the archive of the crate `host` is there.
+#[cfg(host)]
+pub mod lent {
+    use super::*;
+
+    extern "C" {
+        fn keymap_size() -> usize;
+        fn keymap_open(machine: *mut u64, map: *const u8, map_count: usize) -> u64;
+        fn keymap_key(machine: *mut u64, key: u16, budget: u16) -> u64;
+        fn keymap_pop(machine: *mut u64) -> u64;
+    }
+
+    pub struct Lent(Vec<u64>);
+
+    impl Lent {
+        pub fn open(map: &[u8]) -> Self {
+            let mut words = vec![0u64; unsafe { keymap_size() }.div_ceil(8)];
+            let refusal = unsafe { keymap_open(words.as_mut_ptr(), map.as_ptr(), map.len()) };
+            assert_eq!(refusal, 0, "the map is refused");
+            Lent(words)
+        }
+
+        pub fn press(&mut self, keys: &[u16]) -> Sum {
+            let mut sum = Sum::default();
+            let machine = self.0.as_mut_ptr();
+            for &key in keys {
+                unsafe { keymap_key(machine, key, BUDGET) };
+                loop {
+                    let pair = unsafe { keymap_pop(machine) };
+                    if pair == 0 {
+                        break;
+                    }
+                    sum.add(pair as u16, (pair >> 16) as u16, (pair >> 32) as u16);
+                }
+            }
+            sum
+        }
+    }
+}

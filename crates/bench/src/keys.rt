@@ -1,0 +1,228 @@
+// Keys over the map of a map file, with all their pairs. An answer has how many pairs there were above 32 bits that depend
+// on every number of every pair and on their order, so that nobody times other work than the Rust's.
+use keygraph::find::Found;
+use keygraph::graph::Counts;
+use keygraph::graph::Graph;
+use keymachine::context::Context;
+use keymachine::context::Override;
+use keymachine::key;
+use keymachine::machine::ModalMachine;
+use keymachine::machine::Waiting;
+use keymachine::pair::Pair;
+use keymachine::state::Sizes;
+use keymachine::state::State;
+use keymachine::tables::TableWords;
+use mapfile::map;
+ghost use mathlib.Core.Path.{_≡_};
+ghost use lib.ListN.{length};
+
+// A pair more.
+fn mix(sum: u64, pair: Pair) -> u64 {
+    let x = pair.context;
+    let count = (sum / 4294967296 + 1) % 4294967296;
+    let old = sum % 4294967296;
+    let mixed = ((old * 31 + (pair.action as u64)) * 31 + (x.count as u64)) * 31 + (x.mark as u64);
+    count * 4294967296 + mixed % 4294967296
+}
+
+// The first `queued` words of the queue.
+fn mix_queue(queue: &[u64], queued: u16, start: u64) -> u64 {
+    let mut sum = start;
+    let mut i = 0usize;
+    while i < queue.len() {
+        if (queued as usize) <= i {
+            return sum;
+        }
+        let pair = Pair::unpack(queue[i]);
+        sum = mix(sum, pair);
+        i = i + 1;
+    }
+    sum
+}
+
+// In place: the key loop on lent arrays, as the run has it.
+fn keys_over<'a>(
+    keys: &[u16],
+    edges: &'a [u64],
+    heads: &'a [u64],
+    acts: &'a [u64],
+    counts: Counts,
+    classes: &'a [u64],
+    modes: &'a [u64],
+    rules: &'a [u64],
+    sizes: Sizes,
+    budget: u16,
+) -> u64 {
+    let mut queue = [0u64; 256];
+    let mut sequences = [0u64; 520];
+    let mut trail = [0u16; 64];
+    let mut state = State {
+        place: 0,
+        mode: 0,
+        context: Context { count: 0, mark: 0 },
+        queued: 0,
+    };
+    let mut trailed = 0u16;
+    let mut sum = 0u64;
+    let mut i = 0usize;
+    while i < keys.len() {
+        let pressed = keys[i];
+        i = i + 1;
+        let k = key::input_key(
+            edges,
+            heads,
+            acts,
+            counts,
+            classes,
+            modes,
+            rules,
+            sizes,
+            &mut queue,
+            &mut sequences,
+            &mut trail,
+            state,
+            trailed,
+            pressed,
+            budget,
+        );
+        let s = k.state;
+        sum = mix_queue(&queue, s.queued, sum);
+        let context = s.context;
+        state = State {
+            place: s.place,
+            mode: s.mode,
+            context: context,
+            queued: 0,
+        };
+        trailed = k.trailed;
+    }
+    sum
+}
+
+// The same over the words of a graph.
+fn keys_on<'a>(
+    keys: &[u16],
+    words: &'a [u64],
+    counts: Counts,
+    classes: &'a [u64],
+    modes: &'a [u64],
+    rules: &'a [u64],
+    sizes: Sizes,
+    budget: u16,
+) -> u64
+    requires { ⌜ length (now words) ≡ 4128 ⌝ }
+{
+    let edges = &words[0..2048];
+    let heads = &words[2048..3088];
+    let acts = &words[3088..4128];
+    keys_over(
+        keys,
+        edges,
+        heads,
+        acts,
+        counts,
+        classes,
+        modes,
+        rules,
+        sizes,
+        budget,
+    )
+}
+
+#[no_mangle]
+pub extern "C" fn bench_keys_in_place<'a>(bytes: &'a [u8], keys: &'a [u16], budget: u16) -> u64 {
+    let m = map::read_map(bytes);
+    let counts = m.counts;
+    let sizes = m.sizes;
+    keys_on(
+        keys,
+        &m.words,
+        counts,
+        &m.classes,
+        &m.modes,
+        &m.rules,
+        sizes,
+        budget,
+    )
+}
+
+// The machine of a map file.
+fn machine_of(bytes: &[u8]) -> ModalMachine {
+    let r = map::read_map(bytes);
+    let words = r.words;
+    let counts = r.counts;
+    let classes = r.classes;
+    let modes = r.modes;
+    let rules = r.rules;
+    let sizes = r.sizes;
+    let graph = Graph {
+        words: words,
+        counts: counts,
+    };
+    let tables = TableWords {
+        classes: classes,
+        modes: modes,
+        rules: rules,
+        sizes: sizes,
+    };
+    let mut m = ModalMachine::fresh();
+    m.graph = graph;
+    m.tables = tables;
+    m
+}
+
+// By value: a call for each key, and pops up to the one that gives nothing.
+#[no_mangle]
+pub extern "C" fn bench_keys_by_value<'a>(bytes: &'a [u8], keys: &'a [u16], budget: u16) -> u64 {
+    let mut m = machine_of(bytes);
+    let mut sum = 0u64;
+    let mut i = 0usize;
+    while i < keys.len() {
+        let k = m.input_key(keys[i], budget);
+        let pressed = k.machine;
+        m = pressed;
+        let mut left = 257u16;
+        while 0 < left {
+            let p = m.pop();
+            let popped = p.machine;
+            m = popped;
+            let answer = p.answer;
+            match answer {
+                Waiting::Pair(pair) => {
+                    sum = mix(sum, pair);
+                }
+                Waiting::Nothing => break,
+            }
+            left = left - 1;
+        }
+        i = i + 1;
+    }
+    sum
+}
+
+// The node that find gave.
+fn node_of(found: Found) -> u16 {
+    match found {
+        Found::At(node) => node,
+        Found::Nothing => 65534,
+        Found::Refused(_) => 65535,
+    }
+}
+
+// Every other call by value, once, for the stack that they use. The answer is the node of a mapping that was added, and the
+// nodes that are left above it.
+#[no_mangle]
+pub extern "C" fn bench_other_calls(bytes: &[u8]) -> u32 {
+    let m = machine_of(bytes);
+    let mapped = m.add_mapping(1, crate::two_keys(1, 2), crate::one_action(3));
+    let a = mapped.machine;
+    let prefixed = a.add_prefix(2, crate::two_keys(1, 2), true, crate::one_action(3));
+    let b = prefixed.machine;
+    let repeated = b.repeat(0, Override::By(Context { count: 5, mark: 6 }));
+    let c = repeated.machine;
+    let reset = c.reset_mode();
+    let d = reset.machine;
+    let found = d.find(1, 3);
+    let left = d.free_nodes();
+    (left as u32) * 65536 + (node_of(found) as u32)
+}

@@ -1,0 +1,18 @@
+-- The machine is the method's, and the number is its answer's.
+use Rattle.keymachine.specs.Views.{machineOf, pressOf}
+use Rattle.host.proofs.Numbers.{numbered}
+use borrow.Author.Needs.{needs}
+use Rattle.host.proofs.coded.input_key.Statement.{statement}
+use Rattle.host.proofs.coded.input_key.Tie as tie
+
+input-key-requires : tie.Need-input-key-requires
+input-key-requires c κs = search needs
+
+pressed-code-requires : tie.Need-pressed-code-requires
+pressed-code-requires c κs = search needs
+
+returns : tie.Need-returns
+returns c = let r = c .before .before .input-key in numbered (machineOf (r .result .machine)) (pressOf (r .result .answer)) (c .pressed-code .result) _ (r .ensures) (c .pressed-code .ensures)
+
+pub input-key-spec : {M : Type 1} → statement M
+input-key-spec = tie.close (tie.spec input-key-requires pressed-code-requires returns)

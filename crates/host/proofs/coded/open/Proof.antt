@@ -1,0 +1,42 @@
+-- A map that is refused leaves the machine, and one that is accepted is the machine.
+use Rattle.keymachine.specs.Views.{machineOf}
+use Rattle.mapfile.specs.View.{mapOf}
+use Rattle.host.proofs.Numbers.{refused, accepted}
+use borrow.Author.Needs.{needs}
+use Rattle.host.proofs.coded.open.Statement.{statement}
+use Rattle.host.proofs.coded.open.Tie as tie
+
+read-map-requires : tie.Need-read-map-requires
+read-map-requires c κs = search needs
+
+enum-known-answer : tie.Need-enum-known-answer
+enum-known-answer c = search needs
+
+cast-t6 : tie.Need-cast-t6
+cast-t6 c = search needs
+
+returns : tie.Need-returns
+returns c = let a = c .before .before .before .before .before .args in let r = c .before .before .before .read-map in
+    refused (machineOf (a .m)) (mapOf (r .result)) (r .result .answer) (a .map .now) (r .ensures) _ (c .before .answer .given .1)
+
+enum-told : tie.Need-enum-told
+enum-told c = search needs
+
+machine-of-requires : tie.Need-machine-of-requires
+machine-of-requires c κs = search needs
+
+returns-2 : tie.Need-returns-2
+returns-2 c = let a = c .before .before .before .before .before .args in let r = c .before .before .before .read-map in
+    accepted (machineOf (a .m)) (mapOf (r .result)) (r .result .answer) (a .map .now) (r .ensures) (machineOf (c .machine-of .result)) (c .before .enum-told .given .1) (c .machine-of .ensures)
+
+pub open-spec : {M : Type 1} → statement M
+open-spec =
+    tie.close
+    (tie.spec
+    read-map-requires
+    enum-known-answer
+    cast-t6
+    returns
+    enum-told
+    machine-of-requires
+    returns-2)

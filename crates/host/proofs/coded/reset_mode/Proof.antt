@@ -1,0 +1,19 @@
+-- The machine is the method's, and the number is its answer's.
+use Rattle.keygraph.specs.View.{answerOf}
+use Rattle.keymachine.specs.Views.{machineOf}
+use Rattle.host.proofs.Numbers.{numbered}
+use borrow.Author.Needs.{needs}
+use Rattle.host.proofs.coded.reset_mode.Statement.{statement}
+use Rattle.host.proofs.coded.reset_mode.Tie as tie
+
+reset-mode-requires : tie.Need-reset-mode-requires
+reset-mode-requires c κs = search needs
+
+answer-code-requires : tie.Need-answer-code-requires
+answer-code-requires c κs = search needs
+
+returns : tie.Need-returns
+returns c = let r = c .before .before .reset-mode in numbered (machineOf (r .result .machine)) (answerOf (r .result .answer)) (c .answer-code .result) _ (r .ensures) (c .answer-code .ensures)
+
+pub reset-mode-spec : {M : Type 1} → statement M
+reset-mode-spec = tie.close (tie.spec reset-mode-requires answer-code-requires returns)

@@ -1,0 +1,35 @@
+-- The machine's `add_prefix` is called on the machine that is lent, by the walk of `Walk4`.
+use mathlib.Core.Path.{_≡_}
+use Rattle.keymachine.specs.declared.machine.ModalMachine.{ModalMachine}
+use Prim.Native.Nat.{ℕ}
+use Rattle.keyparts.specs.declared.path.EdgePath.{EdgePath}
+use mathlib.Core.Bool.{Bool}
+use Rattle.keyparts.specs.declared.step.Step.{Step}
+use Rattle.keygraph.specs.declared.graph.Answer.{Answer}
+use denote.Triple.Spec.{tripleOf}
+use denote.Triple.Table.{entered, cited}
+use contract.Running.{givenOf, tables, tablesOf}
+use Rattle.rules.specs.Calls.{graphKind, call, Prefix}
+use Rattle.keyparts.specs.View.{wholePath, wholeStep, chosenOf}
+use Rattle.keygraph.specs.View.{answerOf}
+use Rattle.keymachine.specs.Views.{machineOf}
+use Rattle.lending.proofs.Walk4.{Method, meets}
+use Rattle.host.proofs.Types.{settled, u16, path, bool, step}
+use Rattle.keymachine.proofs.machine.ModalMachine.add_prefix.Symbol as method
+use Rattle.keymachine.proofs.machine.ModalMachine.add_prefix.Symbol.{name as #method}
+use Rattle.keymachine.proofs.machine.ModalMachine.add_prefix.Met as theorem
+use Rattle.host.proofs.lent.add_prefix.Key.{name as #add-prefix}
+use Rattle.host.proofs.lent.add_prefix as add-prefix
+use Rattle.host.proofs.lent.add_prefix.Statement as stated
+use Rattle.host.proofs.lent.add_prefix.Code as code
+
+abbrev Leaves : ModalMachine → ℕ → EdgePath → Bool → Step → ModalMachine → Answer → Type 0
+Leaves m x1 x2 x3 x4 m₁ r = (machineOf m₁, answerOf r) ≡ call graphKind (machineOf m) (Prefix x1 (wholePath x2) (chosenOf x3 (wholeStep x4)))
+
+pub add-prefix-spec : {M : Type 1} → stated.statement M
+unfolding code.routine tablesOf
+add-prefix-spec 𝓤 H 𝓜 𝓖 𝓡 =
+    entered 𝓤 H (tripleOf 𝓤 H (𝓖 .A) add-prefix.signature (add-prefix.spec 𝓤 H (𝓖 .A) (𝓜 .mem) (𝓡 .run)))
+    (tables 𝓤 H 𝓜 𝓡 code.env .C) (tables 𝓤 H 𝓜 𝓡 code.env .Λ) #add-prefix code.function (code.unfolded 𝓤 H 𝓜 𝓡)
+    (meets settled u16 path bool step 𝓤 H (𝓖 .A) Leaves (givenOf 𝓤 H 𝓜 𝓖) (tablesOf 𝓤 H 𝓜 (tables 𝓤 H 𝓜 𝓡 code.env)) #method
+    (cited 𝓤 H (Method settled u16 path bool step 𝓤 H (𝓖 .A) Leaves) 𝓜 𝓡 code.env #method method.routine code.calls-keymachine·machine·ModalMachine·add-prefix (theorem.met 𝓤 H 𝓜 𝓖 𝓡)))

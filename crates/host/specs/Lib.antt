@@ -1,0 +1,2 @@
+-- What C gets of the rules' answers.
+pub mod Codes

@@ -1,0 +1,117 @@
+-- The three parts of a graph's words: a word that goes into one leaves the others as they are, so the laws of edges and nodes hold
+-- of the whole.
+use Prim.Native.Nat.{ℕ, _+_, _-_, _*_, _/_, _%_, _<_, _≤_, min}
+use mathlib.Core.Path.{_≡_, sym, ap, _∙_}
+use mathlib.Core.List.{List}
+use native.Mathlib.Omega.{arith}
+use lib.ListN.{length, take, drop, set, getD, length-take, length-drop}
+use lib.Seq.{take-set-lt, take-set-le, drop-set-lt, drop-set-add}
+use Rattle.rules.specs.Basics.{accept, refuse}
+use Rattle.rules.specs.Graph.{Graph, addEdge, addNode, settle}
+use Rattle.keygraph.specs.declared.graph.Counts.{Counts}
+use Rattle.keyparts.specs.View.{eventAt, nodeAt, nodesOf, edgesOf, find, keyIs}
+use Rattle.keygraph.specs.View.{graphFrom, graphIn, edgeWords, headWords, actWords}
+use Rattle.keyparts.proofs.Finds.{edge-replaced, edge-appended, edge-full}
+use Rattle.keyparts.proofs.Nodes.{node-added, node-full, settle-set, settle-out, settle-other}
+
+module _ (ws : List ℕ) (hl : length ws ≡ 4128) where
+  pub edges-length : length (edgeWords ws) ≡ 2048
+  unfolding edgeWords
+  edges-length = omega (arith, length-take 2048 ws)
+
+  pub heads-length : length (headWords ws) ≡ 1040
+  unfolding headWords
+  heads-length = omega (arith, length-take 1040 (drop 2048 ws), length-drop 2048 ws)
+
+  pub acts-length : length (actWords ws) ≡ 1040
+  unfolding actWords
+  acts-length = omega (arith, length-take 1040 (drop 3088 ws), length-drop 3088 ws)
+
+-- ---- what one store changes
+module _ (ws : List ℕ) (i w : ℕ) where
+  edge-in : i < 2048 → edgeWords (set ws i w) ≡ set (edgeWords ws) i w
+  unfolding edgeWords
+  edge-in h = take-set-lt 2048 ws i w h
+
+  edge-heads : i < 2048 → headWords (set ws i w) ≡ headWords ws
+  unfolding headWords
+  edge-heads h = ap (take 1040) (drop-set-lt 2048 ws i w h)
+
+  edge-acts : i < 2048 → actWords (set ws i w) ≡ actWords ws
+  unfolding actWords
+  edge-acts h = let k : i < 3088 = omega arith in ap (take 1040) (drop-set-lt 3088 ws i w k)
+
+  head-in : i < 1040 → headWords (set ws (2048 + i) w) ≡ set (headWords ws) i w
+  unfolding headWords
+  head-in h = ap (take 1040) (drop-set-add 2048 ws i w) ∙ take-set-lt 1040 (drop 2048 ws) i w h
+
+  head-edges : edgeWords (set ws (2048 + i) w) ≡ edgeWords ws
+  unfolding edgeWords
+  head-edges = let k : 2048 ≤ 2048 + i = omega arith in take-set-le 2048 ws (2048 + i) w k
+
+  head-acts : i < 1040 → actWords (set ws (2048 + i) w) ≡ actWords ws
+  unfolding actWords
+  head-acts h = let k : 2048 + i < 3088 = omega arith in ap (take 1040) (drop-set-lt 3088 ws (2048 + i) w k)
+
+  act-in : i < 1040 → actWords (set ws (3088 + i) w) ≡ set (actWords ws) i w
+  unfolding actWords
+  act-in h = ap (take 1040) (drop-set-add 3088 ws i w) ∙ take-set-lt 1040 (drop 3088 ws) i w h
+
+  act-edges : edgeWords (set ws (3088 + i) w) ≡ edgeWords ws
+  unfolding edgeWords
+  act-edges = let k : 2048 ≤ 3088 + i = omega arith in take-set-le 2048 ws (3088 + i) w k
+
+  act-heads : headWords (set ws (3088 + i) w) ≡ headWords ws
+  unfolding headWords
+  act-heads =
+      let e : 3088 + i ≡ 2048 + (1040 + i) = omega arith in
+      let k : 1040 ≤ 1040 + i = omega arith in
+      ap (λ (j : ℕ). take 1040 (drop 2048 (set ws j w))) e ∙ ap (take 1040) (drop-set-add 2048 ws (1040 + i) w) ∙ take-set-le 1040 (drop 2048 ws) (1040 + i) w k
+
+-- ---- the graph after a store, in the three parts before it
+edge-stored : (ws : List ℕ) (i w : ℕ) (k : Counts) → i < 2048 → graphIn (set ws i w) k ≡ graphFrom (headWords ws) (actWords ws) (set (edgeWords ws) i w) k
+edge-stored ws i w k h = rw (edge-in ws i w h, edge-heads ws i w h, edge-acts ws i w h)
+
+node-stored : (ws : List ℕ) (i h w : ℕ) (k : Counts) → i < 1040
+    → graphIn (set (set ws (2048 + i) h) (3088 + i) w) k ≡ graphFrom (set (headWords ws) i h) (set (actWords ws) i w) (edgeWords ws) k
+node-stored ws i h w k l =
+    rw (act-heads (set ws (2048 + i) h) i w, act-in (set ws (2048 + i) h) i w l, act-edges (set ws (2048 + i) h) i w, head-in ws i h l, head-acts ws i h l, head-edges ws i h)
+
+-- ---- an edge: n and i are what the code has for the total and the place
+module _ (ws : List ℕ) (k : Counts) (from code to n i w : ℕ) (hf : from < 65536) (ht : to < 65536) (hl : length ws ≡ 4128)
+    (hn : n ≡ min (k .edges) 2048) (hi : i ≡ find (keyIs (from + code * 65536)) (take (k .edges) (edgeWords ws))) (hw : w ≡ to + 65536 * (from + code * 65536)) where
+  pub edge-put : i < n → accept (graphIn (set ws i w) k) ≡ addEdge from to (eventAt code) (graphIn ws k)
+  edge-put h =
+      let b : i < 2048 = omega arith in
+      ap accept (edge-stored ws i w k b) ∙ edge-replaced (nodesOf (headWords ws) (actWords ws) (k .nodes)) (k .edges) (edgeWords ws) from code to n i w hf ht (edges-length ws hl) hn hi hw h
+
+  pub edge-more : n ≤ i → n < 2048 → accept (graphIn (set ws n w) (record { nodes = k .nodes; edges = n + 1 })) ≡ addEdge from to (eventAt code) (graphIn ws k)
+  edge-more h r = ap accept (edge-stored ws n w (record { nodes = k .nodes; edges = n + 1 }) r)
+      ∙ edge-appended (nodesOf (headWords ws) (actWords ws) (k .nodes)) (k .edges) (edgeWords ws) from code to n i w hf ht (edges-length ws hl) hn hi hw h r
+
+  pub edge-none : n ≤ i → 2048 ≤ n → refuse 3 ≡ addEdge from to (eventAt code) (graphIn ws k)
+  edge-none h r = edge-full (nodesOf (headWords ws) (actWords ws) (k .nodes)) (k .edges) (edgeWords ws) from code to n i w hf ht (edges-length ws hl) hn hi hw h r
+
+-- ---- a node more
+module _ (ws : List ℕ) (k : Counts) (n h w : ℕ) (hl : length ws ≡ 4128) (hn : n ≡ min (k .nodes) 1040) where
+  pub node-more : n < 1040
+      → accept (graphIn (set (set ws (2048 + n) h) (3088 + n) w) (record { nodes = n + 1; edges = k .edges }), n) ≡ addNode (nodeAt h w .mode) (nodeAt h w .action) (graphIn ws k)
+  node-more r = ap (λ (x : Graph). accept (x, n)) (node-stored ws n h w (record { nodes = n + 1; edges = k .edges }) r)
+      ∙ node-added (edgesOf (edgeWords ws) (k .edges)) (headWords ws) (actWords ws) (k .nodes) n h w (heads-length ws hl) (acts-length ws hl) hn r
+
+  pub node-none : 1040 ≤ n → refuse 2 ≡ addNode (nodeAt h w .mode) (nodeAt h w .action) (graphIn ws k)
+  node-none r = node-full (edgesOf (edgeWords ws) (k .edges)) (headWords ws) (actWords ws) (k .nodes) n h w (heads-length ws hl) (acts-length ws hl) hn r
+
+-- ---- a node that is there gets the step: o is its first word
+module _ (ws : List ℕ) (k : Counts) (n node h w o : ℕ) (hl : length ws ≡ 4128) (hn : n ≡ min (k .nodes) 1040) (hk : 2 ≤ h / 128 % 4) (old : o ≡ getD (take (k .nodes) (headWords ws)) node 0) where
+  pub settle-put : o % 128 ≡ h % 128 → node < n → accept (graphIn (set (set ws (2048 + node) h) (3088 + node) w) k, node) ≡ settle (nodeAt h w .mode) node (nodeAt h w .action) (graphIn ws k)
+  settle-put q r =
+      let b : node < 1040 = omega arith in
+      ap (λ (x : Graph). accept (x, node)) (node-stored ws node h w k b)
+      ∙ settle-set (edgesOf (edgeWords ws) (k .edges)) (headWords ws) (actWords ws) (k .nodes) n node h w o (heads-length ws hl) (acts-length ws hl) hn hk old q r
+
+  pub settle-past : o % 128 ≡ h % 128 → n ≤ node → accept (graphIn ws k, node) ≡ settle (nodeAt h w .mode) node (nodeAt h w .action) (graphIn ws k)
+  settle-past q r = settle-out (edgesOf (edgeWords ws) (k .edges)) (headWords ws) (actWords ws) (k .nodes) n node h w o (heads-length ws hl) (acts-length ws hl) hn hk old q r
+
+  pub settle-differs : (o % 128 ≡ h % 128 → ⊥) → refuse 4 ≡ settle (nodeAt h w .mode) node (nodeAt h w .action) (graphIn ws k)
+  settle-differs q = settle-other (edgesOf (edgeWords ws) (k .edges)) (headWords ws) (actWords ws) (k .nodes) n node h w o (heads-length ws hl) (acts-length ws hl) hn hk old q

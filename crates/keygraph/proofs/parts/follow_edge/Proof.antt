@@ -1,0 +1,25 @@
+-- The slices are the parts of the words that the definitions name.
+use Rattle.keygraph.specs.View.{edgeWords}
+use borrow.Author.Needs.{needs}
+use Rattle.keygraph.proofs.parts.follow_edge.Statement.{statement}
+use Rattle.keygraph.proofs.parts.follow_edge.Tie as tie
+
+sub-edges : tie.Need-sub-edges
+sub-edges c = search needs
+
+part-edges-start : tie.Need-part-edges-start
+part-edges-start c = search needs
+
+part-edges-end : tie.Need-part-edges-end
+part-edges-end c = search needs
+
+follow-edge-requires : tie.Need-follow-edge-requires
+follow-edge-requires c κs = search needs
+
+returns : tie.Need-returns
+unfolding edgeWords
+returns c = c .follow-edge .ensures
+
+pub follow-edge-spec : {M : Type 1} → statement M
+follow-edge-spec =
+    tie.close (tie.spec sub-edges part-edges-start part-edges-end follow-edge-requires returns)

@@ -1,0 +1,239 @@
+-- Searches in words, and what they say of the edges.
+use Prim.Native.Nat.{ℕ, zero, suc, _+_, _*_, _%_, _<_, _≤_, min, zero-le}
+use mathlib.Core.Path.{_≡_, refl, sym, ap, _∙_}
+use mathlib.Core.Bool.{Bool, true, false}
+use mathlib.Core.List.{List, [], _∷_, _++_, map}
+use mathlib.Core.Option.{Option, none, some}
+use native.Mathlib.Omega.{arith}
+use native.Mathlib.Numerals.{add-one}
+use lib.ListN.{length, take, drop, set, getD, length-take, length-map, drop-of-length-le}
+use lib.Seq.{drop-cons, getD-take, take-set-lt, take-suc-set}
+use borrow.Author.Tests.{lt-ltb, le-ltb}
+use Rattle.rules.specs.Basics.{if_then_else_, accept, refuse}
+use Rattle.rules.specs.Values.{Event, Class, Fallthrough}
+use Rattle.rules.specs.Tables.{ClassEntry, memberships, holdsKey}
+use Rattle.rules.specs.Graph.{isEdge, Edge, endIn, replaceIn, putEdge, addEdge, getEdge, Node, followFirst, orElseBy, lastly, classEvents, Successor, FallsTo, NoSuccessor}
+use Rattle.keyparts.specs.View.{eventAt, edgeOf, keyIs, find, edgesOf, graphBy, memberEnd, classAt}
+use Rattle.keyparts.proofs.Words.{edge-key, edge-word}
+
+pub map-append : {A B : Type 0} (f : A → B) (xs ys : List A) → map f (xs ++ ys) ≡ map f xs ++ map f ys
+map-append f [] ys = refl
+map-append f (x ∷ xs) ys = ap (λ (r : List _). f x ∷ r) (map-append f xs ys)
+
+pub map-set : {A B : Type 0} (f : A → B) (l : List A) (i : ℕ) (a : A) → map f (set l i a) ≡ set (map f l) i (f a)
+map-set f [] i a = refl
+map-set f (x ∷ l) zero a = refl
+map-set f (x ∷ l) (suc i) a = ap (λ (r : List _). f x ∷ r) (map-set f l i a)
+
+-- ---- a search that goes up from 0: what is still to be searched lies at drop i of the first m
+module _ {A : Type 0} (p : A → Bool) (m : ℕ) (ys : List A) (d : A) (i n : ℕ) (e : n ≡ min m (length ys)) where
+  pub find-here : i < n → p (getD ys i d) ≡ true → find p (take m ys) ≡ i + find p (drop i (take m ys)) → i ≡ find p (take m ys)
+  unfolding find
+  find-here h t q =
+      let l : i < length (take m ys) = omega (arith, length-take m ys) in
+      let k : i < m = omega arith in
+      let s : find p (drop i (take m ys)) ≡ 0 = rw (drop-cons (take m ys) i d l, getD-take m ys i d k, t) in
+      omega arith
+
+  pub find-next : i < n → p (getD ys i d) ≡ false → find p (take m ys) ≡ i + find p (drop i (take m ys)) → find p (take m ys) ≡ i + 1 + find p (drop (i + 1) (take m ys))
+  unfolding find
+  find-next h t q =
+      let l : i < length (take m ys) = omega (arith, length-take m ys) in
+      let k : i < m = omega arith in
+      let s : find p (drop i (take m ys)) ≡ suc (find p (drop (suc i) (take m ys))) = rw (drop-cons (take m ys) i d l, getD-take m ys i d k, t) in
+      let u : find p (drop (i + 1) (take m ys)) ≡ find p (drop (suc i) (take m ys)) = rw add-one in
+      omega arith
+
+  pub find-end : n ≤ i → i ≤ n → find p (take m ys) ≡ i + find p (drop i (take m ys)) → i ≡ find p (take m ys)
+  unfolding find
+  find-end h h2 q =
+      let l : length (take m ys) ≤ i = omega (arith, length-take m ys) in
+      let s : find p (drop i (take m ys)) ≡ 0 = rw (drop-of-length-le (take m ys) l) in
+      omega arith
+
+-- ---- a pass that keeps the first place met, or the total
+module _ {A : Type 0} (p : A → Bool) (m : ℕ) (ys : List A) (d : A) (i n at : ℕ) (e : n ≡ min m (length ys)) where
+  pub earlier-next : (b : Bool) → i < n → p (getD ys i d) ≡ b → find p (take m ys) ≡ min at (i + find p (drop i (take m ys)))
+      → find p (take m ys) ≡ min (if b then min at i else at) (i + 1 + find p (drop (i + 1) (take m ys)))
+  unfolding find
+  earlier-next b h t q = pick b t
+    where
+      l : i < length (take m ys)
+      l = omega (arith, length-take m ys)
+
+      k : i < m
+      k = omega arith
+
+      u : find p (drop (i + 1) (take m ys)) ≡ find p (drop (suc i) (take m ys))
+      u = rw add-one
+
+      pick : (b : Bool) → p (getD ys i d) ≡ b → find p (take m ys) ≡ min (if b then min at i else at) (i + 1 + find p (drop (i + 1) (take m ys)))
+      pick true t =
+          let s : find p (drop i (take m ys)) ≡ 0 = rw (drop-cons (take m ys) i d l, getD-take m ys i d k, t) in
+          omega arith
+      pick false t =
+          let s : find p (drop i (take m ys)) ≡ suc (find p (drop (suc i) (take m ys))) = rw (drop-cons (take m ys) i d l, getD-take m ys i d k, t) in
+          let v = u in
+          omega arith
+
+  pub earlier-end : n ≤ i → i ≤ n → at ≤ n → find p (take m ys) ≡ min at (i + find p (drop i (take m ys))) → at ≡ find p (take m ys)
+  unfolding find
+  earlier-end h h2 h3 q =
+      let l : length (take m ys) ≤ i = omega (arith, length-take m ys) in
+      let s : find p (drop i (take m ys)) ≡ 0 = rw (drop-of-length-le (take m ys) l) in
+      omega arith
+
+pub find-most : {A : Type 0} (p : A → Bool) (xs : List A) → find p xs ≤ length xs
+unfolding find
+find-most p [] = zero-le
+find-most p (x ∷ xs) = pick (p x) (find-most p xs)
+  where
+    pick : (b : Bool) → find p xs ≤ length xs → (if b then 0 else suc (find p xs)) ≤ suc (length xs)
+    pick true h = zero-le
+    pick false h = omega arith
+
+pub earlier-start : {A : Type 0} (p : A → Bool) (m : ℕ) (ys : List A) (n : ℕ) → n ≡ min m (length ys) → find p (take m ys) ≡ min n (0 + find p (drop 0 (take m ys)))
+earlier-start p m ys n e = omega (arith, find-most p (take m ys), length-take m ys)
+
+-- ---- what the search's answer says of the edges
+module _ (n : ℕ) (ev : Event) (p : ℕ → Bool) (same : (w : ℕ) → isEdge n ev (edgeOf w) ≡ p w) where
+  pub end-found : (xs : List ℕ) → find p xs < length xs → endIn (map edgeOf xs) n ev ≡ some (edgeOf (getD xs (find p xs) 0) .to)
+  unfolding find endIn
+  end-found [] h = absurd (omega arith)
+  end-found (x ∷ xs) h = rw (same x) (go (p x) (end-found xs) h)
+    where
+      go : (b : Bool) → (find p xs < length xs → endIn (map edgeOf xs) n ev ≡ some (edgeOf (getD xs (find p xs) 0) .to))
+          → (if b then 0 else suc (find p xs)) < suc (length xs)
+          → (if b then some (edgeOf x .to) else endIn (map edgeOf xs) n ev) ≡ some (edgeOf (getD (x ∷ xs) (if b then 0 else suc (find p xs)) 0) .to)
+      go true ih h = refl
+      go false ih h = ih (omega arith)
+
+  pub end-none : (xs : List ℕ) → length xs ≤ find p xs → endIn (map edgeOf xs) n ev ≡ none
+  unfolding find endIn
+  end-none [] h = refl
+  end-none (x ∷ xs) h = rw (same x) (go (p x) (end-none xs) h)
+    where
+      go : (b : Bool) → (length xs ≤ find p xs → endIn (map edgeOf xs) n ev ≡ none)
+          → suc (length xs) ≤ (if b then 0 else suc (find p xs))
+          → (if b then some (edgeOf x .to) else endIn (map edgeOf xs) n ev) ≡ none
+      go true ih h = absurd (omega arith)
+      go false ih h = ih (omega arith)
+
+  pub replace-found : (to w : ℕ) → edgeOf w ≡ record { from = n; event = ev; to = to } → (xs : List ℕ) → find p xs < length xs
+      → replaceIn (map edgeOf xs) (record { from = n; event = ev; to = to }) ≡ map edgeOf (set xs (find p xs) w)
+  unfolding find replaceIn
+  replace-found to w ew [] h = absurd (omega arith)
+  replace-found to w ew (x ∷ xs) h = rw (same x) (go (p x) (replace-found to w ew xs) h)
+    where
+      go : (b : Bool) → (find p xs < length xs → replaceIn (map edgeOf xs) (record { from = n; event = ev; to = to }) ≡ map edgeOf (set xs (find p xs) w))
+          → (if b then 0 else suc (find p xs)) < suc (length xs)
+          → (if b then record { from = n; event = ev; to = to } ∷ map edgeOf xs else edgeOf x ∷ replaceIn (map edgeOf xs) (record { from = n; event = ev; to = to })) ≡ map edgeOf (set (x ∷ xs) (if b then 0 else suc (find p xs)) w)
+      go true ih h = ap (λ (e : Edge). e ∷ map edgeOf xs) (sym ew)
+      go false ih h = ap (λ (l : List Edge). edgeOf x ∷ l) (ih (omega arith))
+
+-- ---- a word that goes in for an edge: m and ys are the graph's count and its words, n and i what the code has for the total and the place
+module _ (ns : List Node) (m : ℕ) (ys : List ℕ) (from code to n i w : ℕ) (hf : from < 65536) (ht : to < 65536) (hy : length ys ≡ 2048)
+    (hn : n ≡ min m 2048) (hi : i ≡ find (keyIs (from + code * 65536)) (take m ys)) (hw : w ≡ to + 65536 * (from + code * 65536)) where
+  private-same : (x : ℕ) → isEdge from (eventAt code) (edgeOf x) ≡ keyIs (from + code * 65536) x
+  private-same x = edge-key from code x hf
+
+  word-is : edgeOf w ≡ record { from = from; event = eventAt code; to = to }
+  word-is = rw hw (edge-word from code to hf ht)
+
+  pub edge-replaced : i < n → accept (record { nodes = ns; edges = edgesOf (set ys i w) m }) ≡ addEdge from to (eventAt code) (record { nodes = ns; edges = edgesOf ys m })
+  unfolding addEdge getEdge putEdge
+  edge-replaced h =
+      let l : find (keyIs (from + code * 65536)) (take m ys) < length (take m ys) = omega (arith, length-take m ys) in
+      let k : i < m = omega arith in
+      let e = end-found from (eventAt code) (keyIs (from + code * 65536)) private-same (take m ys) l in
+      let q = replace-found from (eventAt code) (keyIs (from + code * 65536)) private-same to w word-is (take m ys) l in
+      rw (e, take-set-lt m ys i w k, q, hi)
+
+  pub edge-appended : n ≤ i → n < 2048 → accept (record { nodes = ns; edges = edgesOf (set ys n w) (n + 1) }) ≡ addEdge from to (eventAt code) (record { nodes = ns; edges = edgesOf ys m })
+  unfolding addEdge getEdge putEdge
+  edge-appended h r =
+      let b = find-most (keyIs (from + code * 65536)) (take m ys) in
+      let l : length (take m ys) ≤ find (keyIs (from + code * 65536)) (take m ys) = omega (arith, length-take m ys) in
+      let u : length (edgesOf ys m) < 2048 = omega (arith, length-map (take m ys) edgeOf, length-take m ys) in
+      let k : m < length ys = omega arith in
+      let s : n ≡ m = omega arith in
+      let e = end-none from (eventAt code) (keyIs (from + code * 65536)) private-same (take m ys) l in
+      rw (e, lt-ltb (length (edgesOf ys m)) 2048 u, s, add-one, take-suc-set ys m w k, map-append edgeOf (take m ys) (w ∷ []), word-is)
+
+  pub edge-full : n ≤ i → 2048 ≤ n → refuse 3 ≡ addEdge from to (eventAt code) (record { nodes = ns; edges = edgesOf ys m })
+  unfolding addEdge getEdge putEdge
+  edge-full h r =
+      let l : length (take m ys) ≤ find (keyIs (from + code * 65536)) (take m ys) = omega (arith, length-take m ys) in
+      let u : 2048 ≤ length (edgesOf ys m) = omega (arith, length-map (take m ys) edgeOf, length-take m ys) in
+      let e = end-none from (eventAt code) (keyIs (from + code * 65536)) private-same (take m ys) l in
+      rw (e, le-ltb (length (edgesOf ys m)) 2048 u)
+
+-- ---- a loop over a view goes from an element to the next
+module _ {A B : Type 0} (f : A → B) (m : ℕ) (ys : List A) (d : A) (i n : ℕ) (e : n ≡ min m (length ys)) where
+  pub view-cons : i < n → map f (drop i (take m ys)) ≡ f (getD ys i d) ∷ map f (drop (i + 1) (take m ys))
+  view-cons h =
+      let l : i < length (take m ys) = omega (arith, length-take m ys) in
+      let k : i < m = omega arith in
+      rw (add-one, drop-cons (take m ys) i d l, getD-take m ys i d k)
+
+  pub view-nil : n ≤ i → map f (drop i (take m ys)) ≡ []
+  view-nil h = let l : length (take m ys) ≤ i = omega (arith, length-take m ys) in rw (drop-of-length-le (take m ys) l)
+
+-- ---- end_of
+module _ (ys : List ℕ) (m node code n i : ℕ) (hd : node < 65536) (hn : n ≡ min m (length ys)) (hi : i ≡ find (keyIs (node + code * 65536)) (take m ys)) where
+  pub end-at : i < n → some (getD ys i 0 % 65536) ≡ endIn (edgesOf ys m) node (eventAt code)
+  unfolding edgeOf
+  end-at h =
+      let l : find (keyIs (node + code * 65536)) (take m ys) < length (take m ys) = omega (arith, length-take m ys) in
+      let k : i < m = omega arith in
+      let e = end-found node (eventAt code) (keyIs (node + code * 65536)) (λ x. edge-key node code x hd) (take m ys) l in
+      sym (e ∙ rw (← hi, getD-take m ys i 0 k))
+
+  pub end-no : n ≤ i → none ≡ endIn (edgesOf ys m) node (eventAt code)
+  end-no h =
+      let l : length (take m ys) ≤ find (keyIs (node + code * 65536)) (take m ys) = omega (arith, length-take m ys) in
+      sym (end-none node (eventAt code) (keyIs (node + code * 65536)) (λ x. edge-key node code x hd) (take m ys) l)
+
+-- ---- following
+module _ (es : List Edge) (node key : ℕ) where
+  pub follow-hit : (ev : Event) (evs : List Event) (to : ℕ) → getEdge (graphBy [] es) node ev ≡ some to → followFirst (graphBy [] es) node (ev ∷ evs) ≡ Successor ev to
+  unfolding followFirst orElseBy
+  follow-hit ev evs to e = rw e
+
+  pub follow-miss : (ev : Event) (evs : List Event) → getEdge (graphBy [] es) node ev ≡ none → followFirst (graphBy [] es) node (ev ∷ evs) ≡ followFirst (graphBy [] es) node evs
+  unfolding followFirst orElseBy
+  follow-miss ev evs e = rw e
+
+  pub follow-falls : (to : ℕ) → getEdge (graphBy [] es) node Fallthrough ≡ some to → followFirst (graphBy [] es) node [] ≡ FallsTo to
+  unfolding followFirst lastly
+  follow-falls to e = rw e
+
+  pub follow-ends : getEdge (graphBy [] es) node Fallthrough ≡ none → followFirst (graphBy [] es) node [] ≡ NoSuccessor
+  unfolding followFirst lastly
+  follow-ends e = rw e
+
+  pub members-step : (w : ℕ) (cs : List ClassEntry) (o : Option ℕ) → memberEnd es node key w ≡ o
+      → followFirst (graphBy [] es) node (classEvents (memberships (classAt w ∷ cs) key)) ≡ orElseBy (Class (w % 65536)) o (followFirst (graphBy [] es) node (classEvents (memberships cs key)))
+  unfolding memberEnd memberships classEvents followFirst getEdge orElseBy classAt
+  members-step w cs o h = pick (holdsKey (classAt w) key) o h
+    where
+      pick : (b : Bool) (o : Option ℕ) → (if b then endIn es node (Class (w % 65536)) else none) ≡ o
+          → followFirst (graphBy [] es) node (classEvents ((if b then classAt w .class ∷ [] else []) ++ memberships cs key)) ≡ orElseBy (Class (w % 65536)) o (followFirst (graphBy [] es) node (classEvents (memberships cs key)))
+      pick true o h = rw h
+      pick false o h = rw (← h)
+
+pub follow-same : (ns : List Node) (es : List Edge) (node : ℕ) (evs : List Event) → followFirst (graphBy [] es) node evs ≡ followFirst (graphBy ns es) node evs
+unfolding followFirst getEdge
+follow-same ns es node [] = refl
+follow-same ns es node (ev ∷ evs) = ap (orElseBy ev (endIn es node ev)) (follow-same ns es node evs)
+
+-- the same for a list of numbers as it stands
+module _ (m : ℕ) (ys : List ℕ) (i n : ℕ) (e : n ≡ min m (length ys)) where
+  pub list-cons : i < n → drop i (take m ys) ≡ getD ys i 0 ∷ drop (i + 1) (take m ys)
+  list-cons h =
+      let l : i < length (take m ys) = omega (arith, length-take m ys) in
+      let k : i < m = omega arith in
+      rw (add-one, drop-cons (take m ys) i 0 l, getD-take m ys i 0 k)
+
+  pub list-nil : n ≤ i → drop i (take m ys) ≡ []
+  list-nil h = let l : length (take m ys) ≤ i = omega (arith, length-take m ys) in rw (drop-of-length-le (take m ys) l)

@@ -1,0 +1,5 @@
+-- Laws that belong to no one function.
+pub mod Words
+pub mod Finds
+pub mod Nodes
+pub mod Ranges

@@ -1,0 +1,19 @@
+-- The words at the number, unpacked.
+use mathlib.Core.Path.{_∙_}
+use Rattle.rules.specs.Graph.{getNode}
+use borrow.Author.Needs.{needs}
+use Rattle.keyparts.proofs.node.node_at.Statement.{statement}
+use Rattle.keyparts.proofs.node.node_at.Tie as tie
+
+packed-at-requires : tie.Need-packed-at-requires
+packed-at-requires c κs = search needs
+
+node-requires : tie.Need-node-requires
+node-requires c κs = search needs
+
+returns : tie.Need-returns
+unfolding getNode
+returns c = λ es. c .node .ensures ∙ c .before .packed-at .ensures
+
+pub node-at-spec : {M : Type 1} → statement M
+node-at-spec = tie.close (tie.spec packed-at-requires node-requires returns)

@@ -1,0 +1,192 @@
+-- What the graph's words and the declared types mean, in the values of the rules. Every word decodes to something.
+use Prim.Native.Nat.{ℕ, zero, suc, _-_, _/_, _%_}
+use mathlib.Core.Bool.{Bool, true, false}
+use mathlib.Core.Option.{Option, none, some}
+use mathlib.Core.List.{List, [], _∷_, _++_, map}
+use lib.Dec.{ltb, eqb}
+use lib.ListN.{take, replicate}
+use Rattle.rules.specs.Basics.{if_then_else_, Result, accept, refuse}
+use Rattle.rules.specs.Values as v
+use Rattle.rules.specs.Tables.{ClassEntry, holdsKey, memberships}
+use Rattle.rules.specs.Graph as g
+use Rattle.keyparts.specs.declared.event.EdgeEvent.{EdgeEvent}
+use Rattle.keyparts.specs.declared.event.EdgeEvent.the-variants.{Key, Class, Any, Fallthrough}
+use Rattle.keyparts.specs.declared.event.EdgeRepeat.{EdgeRepeat}
+use Rattle.keyparts.specs.declared.event.EdgeRepeat.the-variants.{Once, Min, Max}
+use Rattle.keyparts.specs.declared.step.Maybe.{Maybe}
+use Rattle.keyparts.specs.declared.step.Maybe.the-variants.{Nothing, Just}
+use Rattle.keyparts.specs.declared.step.Step.{Step}
+use Rattle.keyparts.specs.declared.path.EdgePathPart.{EdgePathPart}
+use Rattle.keyparts.specs.declared.path.EdgePath.{EdgePath}
+use Rattle.keyparts.specs.declared.node.NodeAction.{NodeAction}
+use Rattle.keyparts.specs.declared.node.NodeAction.the-variants.{Empty, Root, Step as Holds}
+use Rattle.keyparts.specs.declared.node.Node.{Node}
+use Rattle.keyparts.specs.declared.node.Packed.{Packed}
+use Rattle.keyparts.specs.declared.follow.FollowResult.{FollowResult}
+use Rattle.keyparts.specs.declared.follow.FollowResult.the-variants.{Successor, Fallthrough as Falls, NoSuccessor}
+use Rattle.keyparts.specs.declared.find.Found.{Found}
+use Rattle.keyparts.specs.declared.find.Found.the-variants.{Refused as RefusedFind, At, Nothing as NothingFound}
+
+-- ---- the declared types
+
+abbrev pub maybeOf : Maybe → Option ℕ
+maybeOf Nothing = none
+maybeOf (Just n) = some n
+
+abbrev pub eventOf : EdgeEvent → v.Event
+eventOf (Key k) = v.Key k
+eventOf (Class k) = v.Class k
+eventOf Any = v.Any
+eventOf Fallthrough = v.Fallthrough
+
+abbrev pub repeatOf : EdgeRepeat → v.Repeat
+repeatOf Once = v.Once
+repeatOf (Min n) = v.Min n
+repeatOf (Max n) = v.Max n
+
+unfoldable pub partOf : EdgePathPart → v.Part
+partOf p = record { repeat = repeatOf (p .repeat); event = eventOf (p .event) }
+
+-- the parts that are there
+abbrev pub pathOf : EdgePath → List v.Part
+pathOf p = map partOf (take (p .count) (p .parts))
+
+-- a step with the actions that are there
+unfoldable pub stepOf : Step → v.Step
+stepOf s = record {
+  flag = s .unmapped;
+  actions = take (s .count) (s .actions);
+  next = maybeOf (s .next);
+  fallthrough = maybeOf (s .fallthrough);
+  mark = maybeOf (s .mark);
+}
+
+unfoldable pub actionOf : NodeAction → v.Step → g.NodeAction
+actionOf Empty s = g.Empty
+actionOf Root s = g.Root
+actionOf Holds s = g.Holds s
+
+unfoldable pub nodeOf : Node → g.Node
+nodeOf n = record { mode = n .mode; action = actionOf (n .action) (stepOf (n .step)) }
+
+abbrev pub followOf : FollowResult → g.Follow
+followOf (Successor ev to) = g.Successor (eventOf ev) to
+followOf (Falls to) = g.FallsTo to
+followOf NoSuccessor = g.NoSuccessor
+
+abbrev pub foundOf : Found → Result (Option ℕ)
+foundOf (RefusedFind n) = refuse n
+foundOf (At n) = accept (some n)
+foundOf NothingFound = accept none
+
+-- ---- what a caller hands over
+
+-- a list with as many elements as the count says, also where the count is past the array's end
+unfoldable pub fit : {A : Type 0} → A → ℕ → List A → List A
+fit d n xs = take n (xs ++ replicate n d)
+
+unfoldable pub noPart : v.Part
+noPart = record { repeat = v.Once; event = v.Any }
+
+-- a count out of its range shows
+abbrev pub wholePath : EdgePath → List v.Part
+wholePath p = fit noPart (p .count) (map partOf (p .parts))
+
+abbrev pub wholeStep : Step → v.Step
+wholeStep s = record {
+  flag = s .unmapped;
+  actions = fit 0 (s .count) (s .actions);
+  next = maybeOf (s .next);
+  fallthrough = maybeOf (s .fallthrough);
+  mark = maybeOf (s .mark);
+}
+
+-- a step that is there or not
+unfoldable pub chosenOf : Bool → v.Step → Option v.Step
+chosenOf true s = some s
+chosenOf false s = none
+
+unfoldable pub stepsValid : Option v.Step → Bool
+stepsValid none = true
+stepsValid (some s) = v.stepValid s
+
+-- ---- words
+
+-- an event's code: no two codes have the same event
+unfoldable pub eventAt : ℕ → v.Event
+eventAt c =
+    if ltb c 65536
+    then v.Key c
+    else
+    (if ltb c 131072
+    then v.Class (c - 65536)
+    else (if eqb c 131072 then v.Any else (if eqb c 131073 then v.Fallthrough else v.Key c)))
+
+unfoldable pub edgeOf : ℕ → g.Edge
+edgeOf w = record { from = w / 65536 % 65536; event = eventAt (w / 65536 / 65536); to = w % 65536 }
+
+unfoldable pub optOf : ℕ → Option ℕ
+optOf zero = none
+optOf (suc n) = some (n % 65536)
+
+abbrev pub fourOf : ℕ → List ℕ
+fourOf w = w % 65536 ∷ w / 65536 % 65536 ∷ w / 65536 / 65536 % 65536 ∷ w / 65536 / 65536 / 65536 % 65536 ∷ []
+
+-- flag, count, next, fallthrough and mark, lowest first
+unfoldable pub stepAt : ℕ → ℕ → v.Step
+stepAt h w = record {
+  flag = eqb (h % 2) 1;
+  actions = take (h / 2 % 8) (fourOf w);
+  next = optOf (h / 2 / 8 % 131072);
+  fallthrough = optOf (h / 2 / 8 / 131072 % 131072);
+  mark = optOf (h / 2 / 8 / 131072 / 131072 % 131072);
+}
+
+unfoldable pub actionAt : ℕ → v.Step → g.NodeAction
+actionAt k s = if eqb k 0 then g.Empty else (if eqb k 1 then g.Root else g.Holds s)
+
+-- a node's two words: mode, kind and step; actions
+unfoldable pub nodeAt : ℕ → ℕ → g.Node
+nodeAt h w = record { mode = h % 128; action = actionAt (h / 128 % 4) (stepAt (h / 128 / 4) w) }
+
+abbrev pub packedOf : Packed → g.Node
+packedOf p = nodeAt (p .head) (p .acts)
+
+unfoldable pub classAt : ℕ → ClassEntry
+classAt w = record { class = w % 65536; low = w / 65536 % 65536; high = w / 65536 / 65536 % 65536 }
+
+-- ---- tables of words: the first n
+
+unfoldable pub zipWith : {A B C : Type 0} → (A → B → C) → List A → List B → List C
+zipWith f [] ys = []
+zipWith f (x ∷ xs) [] = []
+zipWith f (x ∷ xs) (y ∷ ys) = f x y ∷ zipWith f xs ys
+
+abbrev pub edgesOf : List ℕ → ℕ → List g.Edge
+edgesOf ws n = map edgeOf (take n ws)
+
+abbrev pub nodesOf : List ℕ → List ℕ → ℕ → List g.Node
+nodesOf hs ws n = zipWith nodeAt (take n hs) (take n ws)
+
+abbrev pub classesOf : List ℕ → ℕ → List ClassEntry
+classesOf ws n = map classAt (take n ws)
+
+abbrev pub graphBy : List g.Node → List g.Edge → g.Graph
+graphBy ns es = record { nodes = ns; edges = es }
+
+-- ---- searches
+
+unfoldable pub find : {A : Type 0} → (A → Bool) → List A → ℕ
+find p [] = 0
+find p (x ∷ xs) = if p x then 0 else suc (find p xs)
+
+unfoldable pub keyIs : ℕ → ℕ → Bool
+keyIs key w = eqb (w / 65536) key
+
+-- the end of the Class edge that one entry gives the key
+unfoldable pub memberEnd : List g.Edge → ℕ → ℕ → ℕ → Option ℕ
+memberEnd es node key w = if holdsKey (classAt w) key then g.endIn es node (v.Class (w % 65536)) else none
+
+-- following by the class table and what comes after it
+abbrev pub followMembers : List ℕ → ℕ → ℕ → ℕ → List ClassEntry → g.Follow
+followMembers es n node key cs = g.followFirst (graphBy [] (edgesOf es n)) node (g.classEvents (memberships cs key))

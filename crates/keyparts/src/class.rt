@@ -1,0 +1,49 @@
+// The class table: a word for each entry, which says of a class from which key to which it reaches.
+use crate::number;
+ghost use mathlib.Core.Path.{_≡_};
+ghost use mathlib.Core.List.{[]};
+ghost use Prim.Native.Nat.{_<_};
+ghost use lib.ListN.{length, getD};
+ghost use Rattle.rules.specs.Tables.{holdsKey};
+ghost use Rattle.keyparts.specs.View.{classAt, classesOf};
+
+// The first `count` words are the table.
+pub struct ClassTable {
+    pub words: [u64; 16],
+    pub count: u16,
+}
+
+impl ClassTable {
+    pub fn empty() -> ClassTable
+        ensures { λ r. ⌜ classesOf (r .words) (r .count) ≡ [] ⌝ }
+    {
+        ClassTable {
+            words: [0u64; 16],
+            count: 0,
+        }
+    }
+}
+
+// The word of an entry: the keys from `first` to `last`, both included.
+pub fn class_word(class: u16, first: u16, last: u16) -> u64
+    ensures { λ r. ⌜ classAt r ≡ record { class = class; low = first; high = last } ⌝ }
+{
+    (class as u64) + 65536 * ((first as u64) + 65536 * (last as u64))
+}
+
+// The word of an entry, in table order.
+pub(crate) fn entry_at(classes: &[u64], i: usize) -> u64
+    requires { ⌜ i < length (now classes) ⌝ }
+    ensures { λ r. ⌜ r ≡ getD (now (classes .entry)) i 0 ⌝ }
+{
+    classes[i]
+}
+
+// Does the entry's range hold the key?
+pub(crate) fn holds_key(entry: u64, key: u16) -> bool
+    ensures { λ r. ⌜ r ≡ holdsKey (classAt entry) key ⌝ }
+{
+    let first = number::low(entry / 65536);
+    let last = number::low(entry / 65536 / 65536);
+    if first <= key { key <= last } else { false }
+}

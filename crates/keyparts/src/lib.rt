@@ -1,0 +1,13 @@
+// The parts of a key graph: events, paths, steps and classes, nodes and edges as words, and what is only read from them:
+// following a key, finding, range tests. Every function is proved equal to the rules by the view of specs/View.antt.
+//
+// The functions that are called for every key take slices of words and copy nothing.
+pub mod class;
+pub mod edge;
+pub mod event;
+pub mod find;
+pub mod follow;
+pub mod node;
+pub mod number;
+pub mod path;
+pub mod step;
