@@ -1,5 +1,7 @@
 //! Bindings and keys from a fixed seed, the same for both sides, and the map file that says the bindings.
 
+use crate::bytes::put_number;
+
 pub const SEED: u64 = 20_261_116;
 
 /// Every key has so many rounds: more than any needs.
@@ -134,18 +136,8 @@ pub fn kinds_of(map: &Map, count: usize, seed: u64) -> [(&'static str, Vec<u16>)
 
 // ---- bytes
 
-/// Groups of seven bits, lowest first, 0x80 set on all but the last.
-pub fn put_number(n: u16, out: &mut Vec<u8>) {
-    let mut rest = n;
-    while rest >= 0x80 {
-        out.push((rest & 0x7F) as u8 | 0x80);
-        rest >>= 7;
-    }
-    out.push(rest as u8);
-}
-
 pub fn put_numbers(ns: &[u16], out: &mut Vec<u8>) {
-    ns.iter().for_each(|&n| put_number(n, out));
+    ns.iter().for_each(|&n| put_number(n as u32, out));
 }
 
 /// All numbers of good bytes.
@@ -187,13 +179,13 @@ impl Binding {
 impl Map {
     pub fn bytes(&self) -> Vec<u8> {
         let mut out = vec![];
-        put_number(self.classes.len() as u16, &mut out);
+        put_number(self.classes.len() as u32, &mut out);
         self.classes.iter().for_each(|&(class, low, high)| put_numbers(&[class, low, high], &mut out));
         put_numbers(&[0, self.rules.len() as u16], &mut out);
         for r in &self.rules {
             put_numbers(&[0, r.low, r.high, r.sequence, r.status], &mut out);
         }
-        put_number(self.bindings.len() as u16, &mut out);
+        put_number(self.bindings.len() as u32, &mut out);
         self.bindings.iter().for_each(|b| b.put(&mut out));
         out
     }

@@ -1,11 +1,17 @@
 //! The benchmark: the Rust original and our side on the same inputs, in one run. `compare/bench/run` builds and runs it.
 
+#[path = "../src/archive.rs"]
+mod archive;
+#[path = "../src/bytes.rs"]
+mod bytes;
 mod graph;
 mod inputs;
 mod maps;
 mod original;
 mod ours;
 mod stack;
+#[path = "../src/status.rs"]
+mod status;
 mod sum;
 mod timing;
 

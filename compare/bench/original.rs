@@ -9,6 +9,7 @@ use keybindings::{
 };
 
 use crate::inputs::{Event, Map, Rule, DIGITS};
+use crate::status::status_of;
 use crate::sum::Sum;
 
 /// The traits pass no tables along, so those of the machine at work stand here.
@@ -119,16 +120,6 @@ impl ModeSequence<Sequence, u16, Context> for TableMode {
         let rules = TABLES.get().rules.iter();
         let matching = rules.filter(|r| (r.low..=r.high).contains(action));
         matching.map(|r| (Sequence(r.sequence), status_of(r.status))).collect()
-    }
-}
-
-fn status_of(status: u16) -> SequenceStatus {
-    match status {
-        0 => SequenceStatus::Atom,
-        1 => SequenceStatus::Break,
-        2 => SequenceStatus::Ignore,
-        3 => SequenceStatus::Restart,
-        _ => SequenceStatus::Track,
     }
 }
 

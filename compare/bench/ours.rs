@@ -1,18 +1,10 @@
 //! Our side: the exported run, the crate `bench`, and the machine that is lent to each call where its archive is linked.
 
+use crate::archive;
 use crate::inputs::{numbers, BUDGET};
 use crate::sum::Sum;
 
 extern "C" {
-    fn keymap_run(
-        map: *const u8,
-        map_count: usize,
-        keys: *const u8,
-        keys_count: usize,
-        output: *mut u8,
-        output_count: usize,
-        budget: u16,
-    ) -> u64;
     fn bench_keys_in_place(map: *const u8, map_count: usize, keys: *const u16, keys_count: usize, budget: u16) -> u64;
     fn bench_keys_by_value(map: *const u8, map_count: usize, keys: *const u16, keys_count: usize, budget: u16) -> u64;
     fn bench_other_calls(map: *const u8, map_count: usize) -> u32;
@@ -20,7 +12,7 @@ extern "C" {
 
 /// The run's result; its pairs stand in the output.
 pub fn run(map: &[u8], keys: &[u8], output: &mut [u8]) -> u64 {
-    unsafe { keymap_run(map.as_ptr(), map.len(), keys.as_ptr(), keys.len(), output.as_mut_ptr(), output.len(), BUDGET) }
+    archive::run(map, keys, output, BUDGET)
 }
 
 /// What the pairs of a run came to, or its refusal.

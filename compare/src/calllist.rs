@@ -2,10 +2,10 @@
 //! calls to the end. The answers are those of model and original; find and hint, which document 01 leaves free, are held to
 //! the model's nodes.
 
+use crate::bytes::put_number;
 use crate::calls::{Answer, Call, Tables};
 use crate::cases::{put_binding, put_tables};
 use crate::graph::NodeAction;
-use crate::mapfile::put_number;
 use crate::met::met_named;
 use crate::play::{Both, Seen};
 

@@ -1,9 +1,10 @@
 //! Random map files with key tapes, whole and damaged. A file is first the list of its numbers, so that a damage can hit
 //! one of them: another value, a longer form, a cut, a byte too many.
 
+use crate::bytes::put_number;
 use crate::calls::{Call, Event, ModeEntry, Part, Repeat, Step, Tables};
 use crate::gen::{Gen, Kind};
-use crate::mapfile::{self, put_number};
+use crate::mapfile;
 use crate::scenes;
 
 #[derive(Clone)]

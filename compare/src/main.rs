@@ -2,6 +2,9 @@
 //! says how it is built and used.
 
 mod antt;
+#[cfg(linked)]
+mod archive;
+mod bytes;
 mod calllist;
 mod calls;
 mod cases;
@@ -19,6 +22,7 @@ mod play;
 mod record;
 mod scenes;
 mod shrink;
+mod status;
 
 use std::io::Read;
 use std::path::Path;

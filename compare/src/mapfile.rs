@@ -1,5 +1,6 @@
 //! Document 01's map file, run and `keyplay`, written from its words over model and original together.
 
+use crate::bytes::put_number;
 use crate::calls::{Answer, Call, ClassEntry, Event, ModeEntry, Pair, Part, Repeat, Rule, Step, Tables};
 use crate::play::Both;
 
@@ -22,16 +23,6 @@ fn refused<T>(n: u16) -> Read<T> {
 }
 
 // ---- numbers
-
-/// Groups of seven bits, lowest first, 80 set on all but the last.
-pub fn put_number(n: u32, out: &mut Vec<u8>) {
-    let mut rest = n;
-    while rest >= 0x80 {
-        out.push((rest & 0x7F) as u8 | 0x80);
-        rest >>= 7;
-    }
-    out.push(rest as u8);
-}
 
 pub struct Reader<'a> {
     bytes: &'a [u8],

@@ -11,6 +11,7 @@ use keybindings::{
 };
 
 use crate::calls::{self, Call, Event, Pair, Part, Repeat, Tables};
+use crate::status::status_of;
 
 thread_local! {
     static TABLES: RefCell<Tables> = RefCell::new(Tables::default());
@@ -154,17 +155,6 @@ impl ModeSequence<TableSequence, u16, TableState> for TableMode {
     fn sequences(&self, action: &u16, _: &calls::Context) -> Vec<(TableSequence, SequenceStatus)> {
         let rules = with_tables(|t| t.sequences(self.0, *action));
         rules.into_iter().map(|(s, status)| (TableSequence(s), status_of(status))).collect()
-    }
-}
-
-fn status_of(status: u16) -> SequenceStatus {
-    match status {
-        0 => SequenceStatus::Atom,
-        1 => SequenceStatus::Break,
-        2 => SequenceStatus::Ignore,
-        3 => SequenceStatus::Restart,
-        4 => SequenceStatus::Track,
-        _ => unreachable!("a status out of its range is refused at open"),
     }
 }
 

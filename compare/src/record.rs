@@ -4,9 +4,10 @@
 
 use std::collections::BTreeMap;
 
+use crate::bytes::put_number;
 use crate::calllist::{plays, Item, List, Play};
 use crate::cases::{any_case_of, input_of_case};
-use crate::mapfile::{keyplay, put_number};
+use crate::mapfile::keyplay;
 use crate::met;
 use crate::scenes::list_of;
 
