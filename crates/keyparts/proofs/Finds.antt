@@ -13,7 +13,7 @@ use Rattle.rules.specs.Basics.{if_then_else_, accept, refuse}
 use Rattle.rules.specs.Values.{Event, Class, Fallthrough}
 use Rattle.rules.specs.Tables.{ClassEntry, memberships, holdsKey}
 use Rattle.rules.specs.Graph.{isEdge, Edge, endIn, replaceIn, putEdge, addEdge, getEdge, Node, followFirst, orElseBy, lastly, classEvents, Successor, FallsTo, NoSuccessor}
-use Rattle.keyparts.specs.View.{eventAt, edgeOf, keyIs, find, edgesOf, graphBy, memberEnd, classAt}
+use Rattle.keyparts.specs.View.{eventAt, edgeOf, keyIs, find, edgesOf, memberEnd, followMembers, classAt}
 use Rattle.keyparts.proofs.Words.{edge-key, edge-word}
 
 pub map-append : {A B : Type 0} (f : A → B) (xs ys : List A) → map f (xs ++ ys) ≡ map f xs ++ map f ys
@@ -51,38 +51,6 @@ module _ {A : Type 0} (p : A → Bool) (m : ℕ) (ys : List A) (d : A) (i n : �
       let s : find p (drop i (take m ys)) ≡ 0 = rw (drop-of-length-le (take m ys) l) in
       omega arith
 
--- ---- a pass that keeps the first place met, or the total
-module _ {A : Type 0} (p : A → Bool) (m : ℕ) (ys : List A) (d : A) (i n at : ℕ) (e : n ≡ min m (length ys)) where
-  pub earlier-next : (b : Bool) → i < n → p (getD ys i d) ≡ b → find p (take m ys) ≡ min at (i + find p (drop i (take m ys)))
-      → find p (take m ys) ≡ min (if b then min at i else at) (i + 1 + find p (drop (i + 1) (take m ys)))
-  unfolding find
-  earlier-next b h t q = pick b t
-    where
-      l : i < length (take m ys)
-      l = omega (arith, length-take m ys)
-
-      k : i < m
-      k = omega arith
-
-      u : find p (drop (i + 1) (take m ys)) ≡ find p (drop (suc i) (take m ys))
-      u = rw add-one
-
-      pick : (b : Bool) → p (getD ys i d) ≡ b → find p (take m ys) ≡ min (if b then min at i else at) (i + 1 + find p (drop (i + 1) (take m ys)))
-      pick true t =
-          let s : find p (drop i (take m ys)) ≡ 0 = rw (drop-cons (take m ys) i d l, getD-take m ys i d k, t) in
-          omega arith
-      pick false t =
-          let s : find p (drop i (take m ys)) ≡ suc (find p (drop (suc i) (take m ys))) = rw (drop-cons (take m ys) i d l, getD-take m ys i d k, t) in
-          let v = u in
-          omega arith
-
-  pub earlier-end : n ≤ i → i ≤ n → at ≤ n → find p (take m ys) ≡ min at (i + find p (drop i (take m ys))) → at ≡ find p (take m ys)
-  unfolding find
-  earlier-end h h2 h3 q =
-      let l : length (take m ys) ≤ i = omega (arith, length-take m ys) in
-      let s : find p (drop i (take m ys)) ≡ 0 = rw (drop-of-length-le (take m ys) l) in
-      omega arith
-
 pub find-most : {A : Type 0} (p : A → Bool) (xs : List A) → find p xs ≤ length xs
 unfolding find
 find-most p [] = zero-le
@@ -91,9 +59,6 @@ find-most p (x ∷ xs) = pick (p x) (find-most p xs)
     pick : (b : Bool) → find p xs ≤ length xs → (if b then 0 else suc (find p xs)) ≤ suc (length xs)
     pick true h = zero-le
     pick false h = omega arith
-
-pub earlier-start : {A : Type 0} (p : A → Bool) (m : ℕ) (ys : List A) (n : ℕ) → n ≡ min m (length ys) → find p (take m ys) ≡ min n (0 + find p (drop 0 (take m ys)))
-earlier-start p m ys n e = omega (arith, find-most p (take m ys), length-take m ys)
 
 -- ---- what the search's answer says of the edges
 module _ (n : ℕ) (ev : Event) (p : ℕ → Bool) (same : (w : ℕ) → isEdge n ev (edgeOf w) ≡ p w) where
@@ -194,38 +159,32 @@ module _ (ys : List ℕ) (m node code n i : ℕ) (hd : node < 65536) (hn : n ≡
       let l : length (take m ys) ≤ find (keyIs (node + code * 65536)) (take m ys) = omega (arith, length-take m ys) in
       sym (end-none node (eventAt code) (keyIs (node + code * 65536)) (λ x. edge-key node code x hd) (take m ys) l)
 
--- ---- following
-module _ (es : List Edge) (node key : ℕ) where
-  pub follow-hit : (ev : Event) (evs : List Event) (to : ℕ) → getEdge (graphBy [] es) node ev ≡ some to → followFirst (graphBy [] es) node (ev ∷ evs) ≡ Successor ev to
+-- ---- following, by whatever gives the end of an event's edge
+module _ (end : Event → Option ℕ) where
+  pub follow-hit : (ev : Event) (evs : List Event) (to : ℕ) → end ev ≡ some to → followFirst end (ev ∷ evs) ≡ Successor ev to
   unfolding followFirst orElseBy
   follow-hit ev evs to e = rw e
 
-  pub follow-miss : (ev : Event) (evs : List Event) → getEdge (graphBy [] es) node ev ≡ none → followFirst (graphBy [] es) node (ev ∷ evs) ≡ followFirst (graphBy [] es) node evs
+  pub follow-miss : (ev : Event) (evs : List Event) → end ev ≡ none → followFirst end (ev ∷ evs) ≡ followFirst end evs
   unfolding followFirst orElseBy
   follow-miss ev evs e = rw e
 
-  pub follow-falls : (to : ℕ) → getEdge (graphBy [] es) node Fallthrough ≡ some to → followFirst (graphBy [] es) node [] ≡ FallsTo to
+  pub follow-falls : (to : ℕ) → end Fallthrough ≡ some to → followFirst end [] ≡ FallsTo to
   unfolding followFirst lastly
   follow-falls to e = rw e
 
-  pub follow-ends : getEdge (graphBy [] es) node Fallthrough ≡ none → followFirst (graphBy [] es) node [] ≡ NoSuccessor
+  pub follow-ends : end Fallthrough ≡ none → followFirst end [] ≡ NoSuccessor
   unfolding followFirst lastly
   follow-ends e = rw e
 
-  pub members-step : (w : ℕ) (cs : List ClassEntry) (o : Option ℕ) → memberEnd es node key w ≡ o
-      → followFirst (graphBy [] es) node (classEvents (memberships (classAt w ∷ cs) key)) ≡ orElseBy (Class (w % 65536)) o (followFirst (graphBy [] es) node (classEvents (memberships cs key)))
-  unfolding memberEnd memberships classEvents followFirst getEdge orElseBy classAt
-  members-step w cs o h = pick (holdsKey (classAt w) key) o h
+  pub members-step : (key w : ℕ) (cs : List ClassEntry) (o : Option ℕ) → memberEnd end key w ≡ o → followMembers end key (classAt w ∷ cs) ≡ orElseBy (Class (w % 65536)) o (followMembers end key cs)
+  unfolding memberEnd memberships classEvents followFirst orElseBy classAt
+  members-step key w cs o h = pick (holdsKey (classAt w) key) o h
     where
-      pick : (b : Bool) (o : Option ℕ) → (if b then endIn es node (Class (w % 65536)) else none) ≡ o
-          → followFirst (graphBy [] es) node (classEvents ((if b then classAt w .class ∷ [] else []) ++ memberships cs key)) ≡ orElseBy (Class (w % 65536)) o (followFirst (graphBy [] es) node (classEvents (memberships cs key)))
+      pick : (b : Bool) (o : Option ℕ) → (if b then end (Class (w % 65536)) else none) ≡ o
+          → followFirst end (classEvents ((if b then classAt w .class ∷ [] else []) ++ memberships cs key)) ≡ orElseBy (Class (w % 65536)) o (followMembers end key cs)
       pick true o h = rw h
       pick false o h = rw (← h)
-
-pub follow-same : (ns : List Node) (es : List Edge) (node : ℕ) (evs : List Event) → followFirst (graphBy [] es) node evs ≡ followFirst (graphBy ns es) node evs
-unfolding followFirst getEdge
-follow-same ns es node [] = refl
-follow-same ns es node (ev ∷ evs) = ap (orElseBy ev (endIn es node ev)) (follow-same ns es node evs)
 
 -- the same for a list of numbers as it stands
 module _ (m : ℕ) (ys : List ℕ) (i n : ℕ) (e : n ≡ min m (length ys)) where

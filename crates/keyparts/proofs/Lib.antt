@@ -3,3 +3,4 @@ pub mod Words
 pub mod Finds
 pub mod Nodes
 pub mod Ranges
+pub mod Links

@@ -13,17 +13,11 @@ use Rattle.rules.specs.Basics.{if_then_else_}
 use Rattle.rules.specs.Values.{Event, Key, Class, Any, Fallthrough, sameEvent, Step}
 use Rattle.rules.specs.Graph.{isEdge, Empty, Holds}
 use native.Mathlib.Numerals.{add-one}
-use Rattle.keyparts.specs.View.{eventAt, edgeOf, keyIs, optOf, fourOf, stepAt, actionAt, nodeAt, classAt}
+use Rattle.keyparts.specs.View.{codeOf, eventAt, edgeOf, keyIs, optOf, fourOf, stepAt, actionAt, nodeAt, classAt}
 
 -- ---- events
 
-codeOf : Event → ℕ
-codeOf (Key a) = a
-codeOf (Class a) = 65536 + a
-codeOf Any = 131072
-codeOf Fallthrough = 131073
-
-code-event : (c : ℕ) → codeOf (eventAt c) ≡ c
+pub code-event : (c : ℕ) → codeOf (eventAt c) ≡ c
 unfolding codeOf eventAt
 code-event c = go (ltb c 65536) (ltb c 131072) (eqb c 131072) (eqb c 131073) refl refl refl refl
   where
@@ -65,7 +59,7 @@ same-refl (Class a) = eqb-same a
 same-refl Any = refl
 same-refl Fallthrough = refl
 
-same-eq : (a b : Event) → sameEvent a b ≡ true → a ≡ b
+pub same-eq : (a b : Event) → sameEvent a b ≡ true → a ≡ b
 unfolding sameEvent
 same-eq (Key a) (Key b) h = ap Key (eqb-true a b h)
 same-eq (Key a) (Class b) h = cc

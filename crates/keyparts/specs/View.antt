@@ -1,10 +1,10 @@
 -- What the graph's words and the declared types mean, in the values of the rules. Every word decodes to something.
-use Prim.Native.Nat.{ℕ, zero, suc, _-_, _/_, _%_}
+use Prim.Native.Nat.{ℕ, zero, suc, _+_, _-_, _*_, _/_, _%_}
 use mathlib.Core.Bool.{Bool, true, false}
 use mathlib.Core.Option.{Option, none, some}
 use mathlib.Core.List.{List, [], _∷_, _++_, map}
 use lib.Dec.{ltb, eqb}
-use lib.ListN.{take, replicate}
+use lib.ListN.{length, take, replicate, getD}
 use Rattle.rules.specs.Basics.{if_then_else_, Result, accept, refuse}
 use Rattle.rules.specs.Values as v
 use Rattle.rules.specs.Tables.{ClassEntry, holdsKey, memberships}
@@ -183,10 +183,42 @@ find p (x ∷ xs) = if p x then 0 else suc (find p xs)
 unfoldable pub keyIs : ℕ → ℕ → Bool
 keyIs key w = eqb (w / 65536) key
 
+-- ---- an index of the edges: a link from each edge to the next of its chain, and then to the first edge of each chain
+
+unfoldable pub codeOf : v.Event → ℕ
+codeOf (v.Key k) = k
+codeOf (v.Class c) = 65536 + c
+codeOf v.Any = 131072
+codeOf v.Fallthrough = 131073
+
+-- the words that an index reaches
+abbrev pub reached : List ℕ → ℕ → List ℕ
+reached ws n = take 2048 (take n ws)
+
+-- where the link to the first edge of a chain stands; the edges of one start and one event are on one chain
+unfoldable pub chainOf : ℕ → ℕ
+chainOf key = 2048 + (key / 65536 % 256 + key % 256) % 256
+
+-- the end of n's edge for the event, in at most so many steps from place i on; a place with no edge ends the chain
+unfoldable pub endOn : ℕ → List ℕ → List ℕ → ℕ → v.Event → ℕ → Option ℕ
+endOn zero ws ls n ev i = none
+endOn (suc k) ws ls n ev i =
+    if ltb i (length ws)
+    then (if g.isEdge n ev (edgeOf (getD ws i 0)) then some (edgeOf (getD ws i 0) .to) else endOn k ws ls n ev (getD ls i 0))
+    else none
+
+-- the end of n's edge for the event, as the links lead to it
+unfoldable pub linkedEnd : List ℕ → List ℕ → ℕ → v.Event → Option ℕ
+linkedEnd ws ls n ev = endOn 2048 ws ls n ev (getD ls (chainOf (n + codeOf ev * 65536)) 0)
+
+-- following as the links lead
+unfoldable pub followLinks : List ClassEntry → List ℕ → List ℕ → ℕ → ℕ → g.Follow
+followLinks cs ws ls n k = g.followFirst (linkedEnd ws ls n) (g.eventsOf cs k)
+
 -- the end of the Class edge that one entry gives the key
-unfoldable pub memberEnd : List g.Edge → ℕ → ℕ → ℕ → Option ℕ
-memberEnd es node key w = if holdsKey (classAt w) key then g.endIn es node (v.Class (w % 65536)) else none
+unfoldable pub memberEnd : (v.Event → Option ℕ) → ℕ → ℕ → Option ℕ
+memberEnd end key w = if holdsKey (classAt w) key then end (v.Class (w % 65536)) else none
 
 -- following by the class table and what comes after it
-abbrev pub followMembers : List ℕ → ℕ → ℕ → ℕ → List ClassEntry → g.Follow
-followMembers es n node key cs = g.followFirst (graphBy [] (edgesOf es n)) node (g.classEvents (memberships cs key))
+abbrev pub followMembers : (v.Event → Option ℕ) → ℕ → List ClassEntry → g.Follow
+followMembers end key cs = g.followFirst end (g.classEvents (memberships cs key))

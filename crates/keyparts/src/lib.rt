@@ -7,6 +7,7 @@ pub mod edge;
 pub mod event;
 pub mod find;
 pub mod follow;
+pub mod index;
 pub mod node;
 pub mod number;
 pub mod path;

@@ -1,8 +1,8 @@
-// Small numbers: the least of two, the low 16 bits, the upper part of an edge's word, and four actions in a word.
+// Small numbers: the least of two, the low 16 bits, the upper part of an edge's word, its chain, and four actions in a word.
 ghost use mathlib.Core.Path.{_≡_};
 ghost use mathlib.Core.List.{[], _∷_};
 ghost use Prim.Native.Nat.{_+_, _*_, _<_, _%_, min};
-ghost use Rattle.keyparts.specs.View.{fourOf};
+ghost use Rattle.keyparts.specs.View.{fourOf, chainOf};
 
 // How many words of a table count: a count past its end is the whole table.
 pub fn least(n: u16, most: usize) -> usize
@@ -30,6 +30,13 @@ pub fn key_of(from: u16, code: u32) -> u64
     ensures { λ r. ⌜ (r ≡ from + code * 65536) × (r < 281474976710656) ⌝ }
 {
     (from as u64) + (code as u64) * 65536
+}
+
+// Which link leads to the first edge of the chain for the upper part of an edge's word.
+pub fn chain_of(key: u64) -> usize
+    ensures { λ r. ⌜ (r ≡ chainOf key) × (r < 2304) ⌝ }
+{
+    2048 + (((key / 65536 % 256 + key % 256) % 256) as usize)
 }
 
 fn four(a: u16, b: u16, c: u16, d: u16) -> u64

@@ -141,14 +141,14 @@ module _ (g : Graph) (xs : List Mapping) (H : SameBindings g xs) where
   fall-same q i here (some m) h =
       rw (ap (λ n. n .action) (H .node (place m []) m (H .tree .roots m h))) (record { event = refl; place = H .tree .roots m h; result = refl; fits = tt })
 
-  search-same : (q : Place) (i : ℕ) → At i q → (es : List Event) → AllTurn es → SameTurn At (turnBy g i (followFirst g i es)) (searched xs q (firstOpening xs q es))
+  search-same : (q : Place) (i : ℕ) → At i q → (es : List Event) → AllTurn es → SameTurn At (turnBy g i (followFirst (getEdge g i) es)) (searched xs q (firstOpening xs q es))
   unfolding followFirst orElseBy firstOpening searched
   search-same q i here [] t = rw (H .falls q i here) (fall-same q i here (fallAt xs q) (H .landings q))
   search-same q i here (e ∷ es) t =
       rw (H .ons q i here e (t .0), opening-number q e) (go (number (further q e) (openings xs)) refl (search-same q i here es (t .1)))
     where
-      go : (o : Option ℕ) → number (further q e) (openings xs) ≡ o → SameTurn At (turnBy g i (followFirst g i es)) (searched xs q (firstOpening xs q es))
-          → SameTurn At (turnBy g i (orElseBy e o (followFirst g i es))) (searched xs q (if isThere o then some e else firstOpening xs q es))
+      go : (o : Option ℕ) → number (further q e) (openings xs) ≡ o → SameTurn At (turnBy g i (followFirst (getEdge g i) es)) (searched xs q (firstOpening xs q es))
+          → SameTurn At (turnBy g i (orElseBy e o (followFirst (getEdge g i) es))) (searched xs q (if isThere o then some e else firstOpening xs q es))
       go none n ih = ih
       go (some j) n ih = arrive-same e q i j n
 

@@ -111,10 +111,10 @@ unfoldable pub lastly : Option ℕ → Follow
 lastly (some to) = FallsTo to
 lastly none = NoSuccessor
 
--- the first of the events with an edge, and else the Fallthrough edge
-unfoldable pub followFirst : Graph → ℕ → List Event → Follow
-followFirst g n [] = lastly (getEdge g n Fallthrough)
-followFirst g n (ev ∷ evs) = orElseBy ev (getEdge g n ev) (followFirst g n evs)
+-- the first of the events with an edge, and else the Fallthrough edge; `end` gives the end of an event's edge
+unfoldable pub followFirst : (end : Event → Option ℕ) → List Event → Follow
+followFirst end [] = lastly (end Fallthrough)
+followFirst end (ev ∷ evs) = orElseBy ev (end ev) (followFirst end evs)
 
 unfoldable pub classEvents : List ℕ → List Event
 classEvents [] = Any ∷ []
@@ -125,7 +125,7 @@ unfoldable pub eventsOf : List ClassEntry → ℕ → List Event
 eventsOf cs k = Key k ∷ classEvents (memberships cs k)
 
 unfoldable pub followEdge : List ClassEntry → Graph → ℕ → ℕ → Follow
-followEdge cs g n k = followFirst g n (eventsOf cs k)
+followEdge cs g n k = followFirst (getEdge g n) (eventsOf cs k)
 
 -- ---- a path on its way: the graph, the node come to, and whether a Fallthrough edge is owed from there
 

@@ -7,17 +7,17 @@ use mathlib.Core.Path.{_≡_, refl, sym, ap, _∙_}
 use mathlib.Core.Option.{some, none}
 use Rattle.rules.specs.Tables.{memberships}
 use Rattle.rules.specs.Graph.{orElseBy}
-use Rattle.keyparts.specs.View.{classAt, edgesOf, followMembers, maybeOf, classesOf}
+use Rattle.keyparts.specs.View.{classAt, followMembers, maybeOf, classesOf, reached, linkedEnd}
 use Rattle.keyparts.proofs.Finds.{view-cons, view-nil, members-step}
 use borrow.Author.Needs.{needs}
 use Rattle.keyparts.proofs.follow.follow_classes.Statement.{statement}
 use Rattle.keyparts.proofs.follow.follow_classes.Tie as tie
 
 abbrev Inv-loop : tie.InvT-loop
-Inv-loop edges count classes entries node key n i₀ i = (i ≤ n) × (followMembers edges count node key (classesOf classes entries) ≡ followMembers edges count node key (map classAt (drop i (take entries classes))))
+Inv-loop edges count links classes entries node key n i₀ i = (i ≤ n) × (followMembers (linkedEnd (reached edges count) links node) key (classesOf classes entries) ≡ followMembers (linkedEnd (reached edges count) links node) key (map classAt (drop i (take entries classes))))
 
 abbrev μ-loop : tie.MeasureT-loop
-μ-loop edges count classes entries node key n i₀ i = n - i
+μ-loop edges count links classes entries node key n i₀ i = n - i
 
 least-requires : tie.Need-least-requires Inv-loop μ-loop
 least-requires c κs = search needs
@@ -39,11 +39,11 @@ enum-known-e c = search needs
 
 returns : tie.Need-returns Inv-loop μ-loop
 unfolding orElseBy
-returns c = let m = c .before .before .before in let k = m .before .before .before .before in let l = k .before in let a = l .before .before .before .args in
-    rw (m .before .low .ensures, m .before .before .entry-at .ensures)
-    (sym (k .loop .inv .1 ∙ ap (followMembers (a .edges .now) (a .count) (a .node) (a .key)) (view-cons classAt (a .entries) (a .classes .now) 0 (k .loop .i) (l .least .result) (l .least .ensures) (search needs))
-    ∙ members-step (edgesOf (a .edges .now) (a .count)) (a .node) (a .key) (getD (a .classes .now) (k .loop .i) 0) (map classAt (drop (k .loop .i + 1) (take (a .entries) (a .classes .now)))) (some (c .before .e .given .0 .0))
-    (sym (rw (m .before .before .entry-at .ensures) at (m .member-end .ensures)) ∙ ap maybeOf (c .before .e .given .1))))
+returns c = let a = c .before .before .before .before .before .before .before .before .before .before .before .args in let k = c .before .before .before .before .before .before .before .loop in let l = c .before .before .before .before .before .before .before .before .least in
+    rw (c .before .before .before .before .low .ensures, c .before .before .before .before .before .entry-at .ensures)
+    (sym (k .inv .1 ∙ ap (followMembers (linkedEnd (reached (a .edges .now) (a .count)) (a .links .now) (a .node)) (a .key)) (view-cons classAt (a .entries) (a .classes .now) 0 (k .i) (l .result) (l .ensures) (search needs))
+    ∙ members-step (linkedEnd (reached (a .edges .now) (a .count)) (a .links .now) (a .node)) (a .key) (getD (a .classes .now) (k .i) 0) (map classAt (drop (k .i + 1) (take (a .entries) (a .classes .now)))) (some (c .before .e .given .0 .0))
+    (sym (rw (c .before .before .before .before .before .entry-at .ensures) at (c .before .before .before .member-end .ensures)) ∙ ap maybeOf (c .before .e .given .1))))
 
 enum-told : tie.Need-enum-told Inv-loop μ-loop
 enum-told c = search needs
@@ -56,11 +56,11 @@ loop-less c = search needs
 
 loop-again : tie.Need-loop-again Inv-loop μ-loop
 unfolding orElseBy
-loop-again c = let m = c .before .before in let k = m .before .before .before .before in let l = k .before in let a = l .before .before .before .args in (
+loop-again c = let a = c .before .before .before .before .before .before .before .before .before .before .args in let k = c .before .before .before .before .before .before .loop in let l = c .before .before .before .before .before .before .before .least in (
   search needs,
-  k .loop .inv .1 ∙ ap (followMembers (a .edges .now) (a .count) (a .node) (a .key)) (view-cons classAt (a .entries) (a .classes .now) 0 (k .loop .i) (l .least .result) (l .least .ensures) (search needs))
-      ∙ members-step (edgesOf (a .edges .now) (a .count)) (a .node) (a .key) (getD (a .classes .now) (k .loop .i) 0) (map classAt (drop (k .loop .i + 1) (take (a .entries) (a .classes .now)))) none
-      (sym (rw (m .before .before .entry-at .ensures) at (m .member-end .ensures)) ∙ ap maybeOf (c .enum-told .given .1)),
+  k .inv .1 ∙ ap (followMembers (linkedEnd (reached (a .edges .now) (a .count)) (a .links .now) (a .node)) (a .key)) (view-cons classAt (a .entries) (a .classes .now) 0 (k .i) (l .result) (l .ensures) (search needs))
+      ∙ members-step (linkedEnd (reached (a .edges .now) (a .count)) (a .links .now) (a .node)) (a .key) (getD (a .classes .now) (k .i) 0) (map classAt (drop (k .i + 1) (take (a .entries) (a .classes .now)))) none
+      (sym (rw (c .before .before .before .before .entry-at .ensures) at (c .before .before .member-end .ensures)) ∙ ap maybeOf (c .enum-told .given .1)),
 )
 
 follow-rest-requires : tie.Need-follow-rest-requires Inv-loop μ-loop
@@ -68,8 +68,8 @@ follow-rest-requires c κs = search needs
 
 returns-2 : tie.Need-returns-2 Inv-loop μ-loop
 unfolding memberships
-returns-2 c = let k = c .before .before in let l = k .before in let a = l .before .before .before .args in
-    c .follow-rest .ensures ∙ sym (k .loop .inv .1 ∙ ap (followMembers (a .edges .now) (a .count) (a .node) (a .key)) (view-nil classAt (a .entries) (a .classes .now) 0 (k .loop .i) (l .least .result) (l .least .ensures) (search needs)))
+returns-2 c = let a = c .before .before .before .before .before .before .args in let k = c .before .before .loop in let l = c .before .before .before .least in
+    c .follow-rest .ensures ∙ sym (k .inv .1 ∙ ap (followMembers (linkedEnd (reached (a .edges .now) (a .count)) (a .links .now) (a .node)) (a .key)) (view-nil classAt (a .entries) (a .classes .now) 0 (k .i) (l .result) (l .ensures) (search needs)))
 
 pub follow-classes-spec : {M : Type 1} → statement M
 follow-classes-spec =

@@ -3,8 +3,6 @@ use Prim.Native.Nat.{_%_}
 use mathlib.Core.Path.{_∙_, sym}
 use Rattle.keyparts.specs.View.{memberEnd}
 use Rattle.keyparts.proofs.Words.{event-class}
-use Rattle.rules.specs.Graph.{getEdge}
-use mathlib.Core.List.{[]}
 use borrow.Author.Needs.{needs}
 use Rattle.keyparts.proofs.follow.member_end.Statement.{statement}
 use Rattle.keyparts.proofs.follow.member_end.Tie as tie
@@ -15,23 +13,23 @@ holds-key-requires c κs = search needs
 low-requires : tie.Need-low-requires
 low-requires c κs = search needs
 
-cast-get-edge : tie.Need-cast-get-edge
-cast-get-edge c = search needs
+cast-linked-edge : tie.Need-cast-linked-edge
+cast-linked-edge c = search needs
 
-add-get-edge : tie.Need-add-get-edge
-add-get-edge c = search needs
+add-linked-edge : tie.Need-add-linked-edge
+add-linked-edge c = search needs
 
-get-edge-requires : tie.Need-get-edge-requires
-get-edge-requires c κs = search needs
+linked-edge-requires : tie.Need-linked-edge-requires
+linked-edge-requires c κs = search needs
 
 returns : tie.Need-returns
-unfolding memberEnd getEdge
-returns c = let b = c .before .before .before in let a = b .before .before .args in
-    rw (sym (b .holds-key .ensures) ∙ c .before .before .if1 .taken) (rw (c .before .low .ensures, event-class (a .entry % 65536) (search needs)) at (c .get-edge .ensures []))
+unfolding memberEnd
+returns c = let a = c .before .before .before .before .before .args in
+    rw (sym (c .before .before .before .holds-key .ensures) ∙ c .before .before .if1 .taken) (rw (c .before .low .ensures, event-class (a .entry % 65536) (search needs)) at (c .linked-edge .ensures))
 
 returns-2 : tie.Need-returns-2
-unfolding memberEnd getEdge
-returns-2 c = let b = c .before in rw (sym (b .holds-key .ensures) ∙ c .if1 .left)
+unfolding memberEnd
+returns-2 c = rw (sym (c .before .holds-key .ensures) ∙ c .if1 .left)
 
 pub member-end-spec : {M : Type 1} → statement M
 member-end-spec =
@@ -39,8 +37,8 @@ member-end-spec =
     (tie.spec
     holds-key-requires
     low-requires
-    cast-get-edge
-    add-get-edge
-    get-edge-requires
+    cast-linked-edge
+    add-linked-edge
+    linked-edge-requires
     returns
     returns-2)
