@@ -16,6 +16,7 @@ pub use keyparts::edge;
 pub use keyparts::event;
 pub use keyparts::find;
 pub use keyparts::follow;
+pub use keyparts::index;
 pub use keyparts::node;
 pub use keyparts::number;
 pub use keyparts::path;

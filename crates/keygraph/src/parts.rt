@@ -4,6 +4,7 @@ use keyparts::find;
 use keyparts::find::Found;
 use keyparts::follow;
 use keyparts::follow::FollowResult;
+use keyparts::index::Index;
 use keyparts::node;
 use keyparts::node::Node;
 use keyparts::step::Maybe;
@@ -52,7 +53,8 @@ pub(crate) fn follow_edge<'a>(
     ensures { λ r. ⌜ ((ns : List g.Node) → followOf r ≡ g.followEdge (classesOf (now (classes .entry)) entries) (graphBy ns (edgesOf (edgeWords (now (words .entry))) count)) node key) ⌝ }
 {
     let edges = &words[0..2048];
-    follow::follow_edge(edges, count, classes, entries, node, key)
+    let index = Index::new(edges, count);
+    follow::follow_edge(edges, count, &index.links, classes, entries, node, key)
 }
 
 pub(crate) fn head_at(words: &[u64], count: u16, node: u16) -> u64

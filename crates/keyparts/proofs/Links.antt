@@ -9,7 +9,7 @@ use mathlib.Core.Option.{Option, none, some}
 use native.Mathlib.Omega.{arith}
 use lib.Dec.{ltb, eqb}
 use lib.ListN.{length, take, drop, set, getD, replicate, length-set, length-take, length-replicate, getD-replicate, drop-of-length-le}
-use lib.Seq.{drop-cons, getD-take, getD-set-same, getD-set-other}
+use lib.Seq.{take-all, drop-cons, getD-take, getD-set-same, getD-set-other}
 use borrow.Author.Tests.{lt-ltb, le-ltb, eqb-true, eqb-false, ltb-true}
 use Rattle.rules.specs.Basics.{if_then_else_}
 use Rattle.rules.specs.Values.{Event}
@@ -25,6 +25,9 @@ length-reached m ys = omega (arith, length-take 2048 (take m ys), length-take m 
 
 pub reached-short : (m : ℕ) (ys : List ℕ) → length (reached ys m) ≤ 2048
 reached-short m ys = omega (arith, length-take 2048 (take m ys))
+
+pub reached-all : (m : ℕ) (ys : List ℕ) → length ys ≤ 2048 → reached ys m ≡ take m ys
+reached-all m ys h = take-all 2048 (take m ys) (omega (arith, length-take m ys))
 
 pub reached-at : (m : ℕ) (ys : List ℕ) (i n : ℕ) → n ≡ min (min m 2048) (length ys) → i < n → getD (reached ys m) i 0 ≡ getD ys i 0
 reached-at m ys i n e h = getD-take 2048 (take m ys) i 0 (omega arith) ∙ getD-take m ys i 0 (omega arith)
