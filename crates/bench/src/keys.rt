@@ -43,16 +43,16 @@ fn mix_queue(queue: &[u64], queued: u16, start: u64) -> u64 {
 // In place: the key loop on lent arrays, as the run has it.
 fn keys_over<'a>(
     keys: &[u16],
-    edges: &'a [u64],
-    heads: &'a [u64],
-    acts: &'a [u64],
+    words: &'a [u64; 4128],
     counts: Counts,
     classes: &'a [u64],
     modes: &'a [u64],
     rules: &'a [u64],
     sizes: Sizes,
     budget: u16,
-) -> u64 {
+) -> u64
+    requires { ⌜ length (now words) ≡ 4128 ⌝ }
+{
     let mut queue = [0u64; 256];
     let mut sequences = [0u64; 520];
     let mut trail = [0u16; 64];
@@ -69,9 +69,7 @@ fn keys_over<'a>(
         let pressed = keys[i];
         i = i + 1;
         let k = key::input_key(
-            edges,
-            heads,
-            acts,
+            words,
             counts,
             classes,
             modes,
@@ -99,42 +97,12 @@ fn keys_over<'a>(
     sum
 }
 
-// The same over the words of a graph.
-fn keys_on<'a>(
-    keys: &[u16],
-    words: &'a [u64],
-    counts: Counts,
-    classes: &'a [u64],
-    modes: &'a [u64],
-    rules: &'a [u64],
-    sizes: Sizes,
-    budget: u16,
-) -> u64
-    requires { ⌜ length (now words) ≡ 4128 ⌝ }
-{
-    let edges = &words[0..2048];
-    let heads = &words[2048..3088];
-    let acts = &words[3088..4128];
-    keys_over(
-        keys,
-        edges,
-        heads,
-        acts,
-        counts,
-        classes,
-        modes,
-        rules,
-        sizes,
-        budget,
-    )
-}
-
 #[no_mangle]
 pub extern "C" fn bench_keys_in_place<'a>(bytes: &'a [u8], keys: &'a [u16], budget: u16) -> u64 {
     let m = map::read_map(bytes);
     let counts = m.counts;
     let sizes = m.sizes;
-    keys_on(
+    keys_over(
         keys,
         &m.words,
         counts,

@@ -13,9 +13,7 @@ use lib.Dec.{ltb, leb}
 use borrow.Author.Tests.{lt-ltb, le-ltb, le-leb, lt-leb}
 use Rattle.rules.specs.Basics.{if_then_else_, Result, accept, refuse, _>>=_, unless}
 use Rattle.rules.specs.Values.{Event, Step}
-use Rattle.rules.specs.KeyLoop.{Shared, withTrail, State, at, clearTrail, KeyResult, Turn, InputResult, Again, ClearTrail, Consumed, NeedMore, Unmapped, RunStep, RetryAfter, runHook, unmapped, step, after, round, proceed, loop, inputKey}
-use Rattle.rules.specs.Graph.{Graph}
-use Rattle.rules.specs.Calls.{graphNavigator}
+use Rattle.rules.specs.KeyLoop.{Shared, withTrail, State, at, clearTrail, KeyResult, Navigator, Turn, InputResult, Again, ClearTrail, Consumed, NeedMore, Unmapped, RunStep, RetryAfter, runHook, unmapped, step, after, round, proceed, loop, inputKey}
 use Rattle.keymachine.proofs.Stack.{weight, weight-cons, weight-nil, weight-append, weight-drop, length-weight, drop-put}
 
 abbrev pub stopped : ℕ → ℕ → KeyResult ℕ
@@ -24,44 +22,44 @@ stopped r n = record { rounds = r; result = refuse n }
 abbrev pub finished : ℕ → State ℕ → KeyResult ℕ
 finished r m = record { rounds = r; result = accept m }
 
-module _ (g : Graph) where
-  loop-go : (B r k : ℕ) (ks : List ℕ) (m : State ℕ) (ls : List ℕ) (m' : State ℕ) → r < B → round (graphNavigator g) k ks m ≡ accept (ls, m')
-      → loop (graphNavigator g) (B - r) r (k ∷ ks) m ≡ loop (graphNavigator g) (B - (r + 1)) (r + 1) ls m'
+module _ (nav : Navigator ℕ) where
+  loop-go : (B r k : ℕ) (ks : List ℕ) (m : State ℕ) (ls : List ℕ) (m' : State ℕ) → r < B → round nav k ks m ≡ accept (ls, m')
+      → loop nav (B - r) r (k ∷ ks) m ≡ loop nav (B - (r + 1)) (r + 1) ls m'
   unfolding loop proceed
   loop-go B r k ks m ls m' h e = let q : B - r ≡ suc (B - suc r) = omega arith in rw (q, e, add-one)
 
-  loop-stop : (B r k : ℕ) (ks : List ℕ) (m : State ℕ) (n : ℕ) → r < B → round (graphNavigator g) k ks m ≡ refuse n
-      → loop (graphNavigator g) (B - r) r (k ∷ ks) m ≡ stopped (r + 1) n
+  loop-stop : (B r k : ℕ) (ks : List ℕ) (m : State ℕ) (n : ℕ) → r < B → round nav k ks m ≡ refuse n
+      → loop nav (B - r) r (k ∷ ks) m ≡ stopped (r + 1) n
   unfolding loop proceed
   loop-stop B r k ks m n h e = let q : B - r ≡ suc (B - suc r) = omega arith in rw (q, e, add-one)
 
-  loop-out : (B r k : ℕ) (ks : List ℕ) (m : State ℕ) → B ≤ r → loop (graphNavigator g) (B - r) r (k ∷ ks) m ≡ stopped r 8
+  loop-out : (B r k : ℕ) (ks : List ℕ) (m : State ℕ) → B ≤ r → loop nav (B - r) r (k ∷ ks) m ≡ stopped r 8
   unfolding loop
   loop-out B r k ks m h = let q : B - r ≡ 0 = omega arith in rw q
 
-  loop-done : (b r : ℕ) (m : State ℕ) → loop (graphNavigator g) b r [] m ≡ finished r m
+  loop-done : (b r : ℕ) (m : State ℕ) → loop nav b r [] m ≡ finished r m
   unfolding loop
   loop-done zero r m = refl
   loop-done (suc b) r m = refl
 
 -- ---- a round that was made with key k on m: it came to x, and left m' after the event hook
-pub record Round (g : Graph) (k : ℕ) (m m' : State ℕ) (x : InputResult) : Type 0 where
-  pub result : graphNavigator g .turn (m .shared .tables .classes) (m .place) k .result ≡ x
-  pub state : m' ≡ at (graphNavigator g .turn (m .shared .tables .classes) (m .place) k .place) (runHook (graphNavigator g .turn (m .shared .tables .classes) (m .place) k .event) k (m .shared))
+pub record Round (nav : Navigator ℕ) (k : ℕ) (m m' : State ℕ) (x : InputResult) : Type 0 where
+  pub result : nav .turn (m .shared .tables .classes) (m .place) k .result ≡ x
+  pub state : m' ≡ at (nav .turn (m .shared .tables .classes) (m .place) k .place) (runHook (nav .turn (m .shared .tables .classes) (m .place) k .event) k (m .shared))
   pub trail : m' .shared .trail ≡ m .shared .trail
 
 -- ---- the loop's invariant. ks is the stack still to try, with the key in hand first; K is what it is to come to
-pub record Held (g : Graph) (B : ℕ) (K : KeyResult ℕ) (stack : List ℕ) (top r : ℕ) (ks : List ℕ) (m : State ℕ) : Type 0 where
+pub record Held (nav : Navigator ℕ) (B : ℕ) (K : KeyResult ℕ) (stack : List ℕ) (top r : ℕ) (ks : List ℕ) (m : State ℕ) : Type 0 where
   pub long : length stack ≡ 130
   pub low : top ≤ 130
   pub within : r ≤ B
   pub light : weight ks + weight (m .shared .trail) ≤ 130
-  pub same : K ≡ loop (graphNavigator g) (B - r) r ks m
+  pub same : K ≡ loop nav (B - r) r ks m
 
-pub held-start : (g : Graph) (B first : ℕ) (m : State ℕ) (z : List ℕ) → length z ≡ 130 → weight (m .shared .trail) ≤ 128
-    → Held g B (inputKey (graphNavigator g) (record { key = first; budget = B }) m) (set z 129 first) 129 0 (drop 129 (set z 129 first)) m
+pub held-start : (nav : Navigator ℕ) (B first : ℕ) (m : State ℕ) (z : List ℕ) → length z ≡ 130 → weight (m .shared .trail) ≤ 128
+    → Held nav B (inputKey nav (record { key = first; budget = B }) m) (set z 129 first) 129 0 (drop 129 (set z 129 first)) m
 unfolding inputKey
-held-start g B first m z e w =
+held-start nav B first m z e w =
     let d : drop 129 (set z 129 first) ≡ first ∷ drop 130 z = drop-put z 130 first (omega arith) (omega arith) in
     let l : length z ≤ 130 = omega arith in
     let n : drop 130 z ≡ [] = drop-of-length-le z l in
@@ -74,43 +72,43 @@ held-start g B first m z e w =
       same = rw (q, sub-zero);
     }
 
-module _ {g : Graph} {B : ℕ} {K : KeyResult ℕ} {stack : List ℕ} {top r : ℕ} {m : State ℕ} where
-  pub held-pop : Held g B K stack top r (drop top stack) m → top < 130 → Held g B K stack (top + 1) r (getD stack top 0 ∷ drop (top + 1) stack) m
+module _ {nav : Navigator ℕ} {B : ℕ} {K : KeyResult ℕ} {stack : List ℕ} {top r : ℕ} {m : State ℕ} where
+  pub held-pop : Held nav B K stack top r (drop top stack) m → top < 130 → Held nav B K stack (top + 1) r (getD stack top 0 ∷ drop (top + 1) stack) m
   held-pop h l =
       let i : top < length stack = omega arith in
       let q : drop top stack ≡ getD stack top 0 ∷ drop (top + 1) stack = rw add-one (drop-cons stack top 0 i) in
       record { long = h .long; low = omega arith; within = h .within; light = rw (← q) (h .light); same = rw (← q) (h .same) }
 
   -- the top of the stack is past the end: nothing is left
-  pub held-done : Held g B K stack top r (drop top stack) m → 130 ≤ top → K ≡ finished r m
+  pub held-done : Held nav B K stack top r (drop top stack) m → 130 ≤ top → K ≡ finished r m
   held-done h l =
       let e : length stack ≤ top = omega arith in
       let n : drop top stack ≡ [] = drop-of-length-le stack e in
-      h .same ∙ ap (λ (l : List ℕ). loop (graphNavigator g) (B - r) r l m) n ∙ loop-done g (B - r) r m
+      h .same ∙ ap (λ (l : List ℕ). loop nav (B - r) r l m) n ∙ loop-done nav (B - r) r m
 
   -- the same, seen from another beginning
-  pub held-from : {ks : List ℕ} (K' : KeyResult ℕ) → K' ≡ K → Held g B K stack top r ks m → Held g B K' stack top r ks m
+  pub held-from : {ks : List ℕ} (K' : KeyResult ℕ) → K' ≡ K → Held nav B K stack top r ks m → Held nav B K' stack top r ks m
   held-from K' e h = record { long = h .long; low = h .low; within = h .within; light = h .light; same = e ∙ h .same }
 
-  pub held-anew : {ks : List ℕ} → Held g B K stack top r ks m → Held g B (loop (graphNavigator g) (B - r) r ks m) stack top r ks m
+  pub held-anew : {ks : List ℕ} → Held nav B K stack top r ks m → Held nav B (loop nav (B - r) r ks m) stack top r ks m
   held-anew h = record { long = h .long; low = h .low; within = h .within; light = h .light; same = refl }
 
-  module _ {k : ℕ} (h : Held g B K stack top r (k ∷ drop top stack) m) where
+  module _ {k : ℕ} (h : Held nav B K stack top r (k ∷ drop top stack) m) where
     -- there is room on the stack for the trail, and for the rest of a key that decomposes
     pub held-room : 1 + min 1 (k / 32768) + (130 - top) + length (m .shared .trail) ≤ 130
     held-room = omega (arith, h .light, h .long, weight-cons k (drop top stack), length-weight (drop top stack), length-weight (m .shared .trail), length-drop top stack)
 
     pub held-out : B ≤ r → K ≡ stopped r 8
-    held-out l = h .same ∙ loop-out g B r k (drop top stack) m l
+    held-out l = h .same ∙ loop-out nav B r k (drop top stack) m l
 
-    module _ (l : r < B) {m' : State ℕ} {x : InputResult} (w : Round g k m m' x) where
-      round-is : round (graphNavigator g) k (drop top stack) m ≡ after (graphNavigator g) x k (drop top stack) m'
+    module _ (l : r < B) {m' : State ℕ} {x : InputResult} (w : Round nav k m m' x) where
+      round-is : round nav k (drop top stack) m ≡ after nav x k (drop top stack) m'
       unfolding round
       round-is = rw (w .result, ← (w .state))
 
-      go : {stack' : List ℕ} {top' : ℕ} {ls : List ℕ} {u : State ℕ} → after (graphNavigator g) x k (drop top stack) m' ≡ accept (ls, u)
+      go : {stack' : List ℕ} {top' : ℕ} {ls : List ℕ} {u : State ℕ} → after nav x k (drop top stack) m' ≡ accept (ls, u)
           → length stack' ≡ 130 → top' ≤ 130 → weight ls + weight (u .shared .trail) ≤ 1 + min 1 (k / 32768) + weight (drop top stack) + weight (m' .shared .trail)
-          → Held g B K stack' top' (r + 1) ls u
+          → Held nav B K stack' top' (r + 1) ls u
       go {ls = ls} {u} e n o v =
           let q : weight (m' .shared .trail) ≡ weight (m .shared .trail) = ap weight (w .trail) in
           record {
@@ -118,68 +116,68 @@ module _ {g : Graph} {B : ℕ} {K : KeyResult ℕ} {stack : List ℕ} {top r : �
             low = o;
             within = omega arith;
             light = omega (arith, h .light, weight-cons k (drop top stack));
-            same = h .same ∙ loop-go g B r k (drop top stack) m ls u l (round-is ∙ e);
+            same = h .same ∙ loop-go nav B r k (drop top stack) m ls u l (round-is ∙ e);
           }
 
-      stop : (n : ℕ) → after (graphNavigator g) x k (drop top stack) m' ≡ refuse n → K ≡ stopped (r + 1) n
-      stop n e = h .same ∙ loop-stop g B r k (drop top stack) m n l (round-is ∙ e)
+      stop : (n : ℕ) → after nav x k (drop top stack) m' ≡ refuse n → K ≡ stopped (r + 1) n
+      stop n e = h .same ∙ loop-stop nav B r k (drop top stack) m n l (round-is ∙ e)
 
     module _ (l : r < B) {m' : State ℕ} where
-      pub met-again : Round g k m m' Again → Held g B K stack top (r + 1) (k ∷ drop top stack) m'
+      pub met-again : Round nav k m m' Again → Held nav B K stack top (r + 1) (k ∷ drop top stack) m'
       unfolding after
       met-again w = go l w refl (h .long) (h .low) (omega (arith, weight-cons k (drop top stack)))
 
-      pub met-clear : Round g k m m' ClearTrail → Held g B K stack top (r + 1) (k ∷ drop top stack) (clearTrail m')
+      pub met-clear : Round nav k m m' ClearTrail → Held nav B K stack top (r + 1) (k ∷ drop top stack) (clearTrail m')
       unfolding after
       met-clear w = go l w refl (h .long) (h .low) (omega (arith, weight-cons k (drop top stack), weight-nil))
 
-      pub met-consumed : Round g k m m' Consumed → Held g B K stack top (r + 1) (drop top stack) (clearTrail m')
+      pub met-consumed : Round nav k m m' Consumed → Held nav B K stack top (r + 1) (drop top stack) (clearTrail m')
       unfolding after
       met-consumed w = go l w refl (h .long) (h .low) (omega (arith, weight-nil))
 
-      pub met-more : Round g k m m' NeedMore → length (m' .shared .trail) < 64 → Held g B K stack top (r + 1) (drop top stack) (at (m' .place) (withTrail (m' .shared .trail ++ (k ∷ [])) (m' .shared)))
+      pub met-more : Round nav k m m' NeedMore → length (m' .shared .trail) < 64 → Held nav B K stack top (r + 1) (drop top stack) (at (m' .place) (withTrail (m' .shared .trail ++ (k ∷ [])) (m' .shared)))
       unfolding after
       met-more w n = go l w (rw (lt-ltb (length (m' .shared .trail)) 64 n)) (h .long) (h .low) (omega (arith, weight-append (m' .shared .trail) (k ∷ []), weight-cons k [], weight-nil))
 
-      pub met-full : Round g k m m' NeedMore → 64 ≤ length (m' .shared .trail) → K ≡ stopped (r + 1) 7
+      pub met-full : Round nav k m m' NeedMore → 64 ≤ length (m' .shared .trail) → K ≡ stopped (r + 1) 7
       unfolding after
       met-full w n = stop l w 7 (rw (le-ltb (length (m' .shared .trail)) 64 n))
 
-      pub met-big : Round g k m m' Unmapped → 32768 ≤ k → k - 32768 < 32768 → (stack' : List ℕ) (top' : ℕ) → length stack' ≡ 130 → top' ≤ 130 → drop top' stack' ≡ (k - 32768) ∷ drop top stack
-          → Held g B K stack' top' (r + 1) (27 ∷ drop top' stack') m'
+      pub met-big : Round nav k m m' Unmapped → 32768 ≤ k → k - 32768 < 32768 → (stack' : List ℕ) (top' : ℕ) → length stack' ≡ 130 → top' ≤ 130 → drop top' stack' ≡ (k - 32768) ∷ drop top stack
+          → Held nav B K stack' top' (r + 1) (27 ∷ drop top' stack') m'
       unfolding after
       met-big w n s stack' top' a b d =
           let v : weight (27 ∷ drop top' stack') ≡ 1 + min 1 (27 / 32768) + (1 + min 1 ((k - 32768) / 32768) + weight (drop top stack)) = weight-cons 27 (drop top' stack') ∙ ap (λ (i : ℕ). 1 + min 1 (27 / 32768) + i) (ap weight d ∙ weight-cons (k - 32768) (drop top stack)) in
           go l w (rw (d, le-leb 32768 k n)) a b (omega arith)
 
-      module _ (w : Round g k m m' Unmapped) (n : k < 32768) where
-        pub met-unmapped : (u : State ℕ) → accept u ≡ unmapped (graphNavigator g) (clearTrail m') → u .shared .trail ≡ [] → (stack' : List ℕ) (top' : ℕ) → length stack' ≡ 130 → top' ≤ 130
-            → drop top' stack' ≡ drop 1 (m' .shared .trail ++ (k ∷ [])) ++ drop top stack → Held g B K stack' top' (r + 1) (drop top' stack') u
+      module _ (w : Round nav k m m' Unmapped) (n : k < 32768) where
+        pub met-unmapped : (u : State ℕ) → accept u ≡ unmapped nav (clearTrail m') → u .shared .trail ≡ [] → (stack' : List ℕ) (top' : ℕ) → length stack' ≡ 130 → top' ≤ 130
+            → drop top' stack' ≡ drop 1 (m' .shared .trail ++ (k ∷ [])) ++ drop top stack → Held nav B K stack' top' (r + 1) (drop top' stack') u
         unfolding after
         met-unmapped u eu z stack' top' a b d =
             let y : weight (drop top' stack') ≡ weight (drop 1 (m' .shared .trail ++ (k ∷ []))) + weight (drop top stack) = ap weight d ∙ weight-append (drop 1 (m' .shared .trail ++ (k ∷ []))) (drop top stack) in
             let v : weight (u .shared .trail) ≡ 0 = ap weight z ∙ weight-nil in
             go l w (rw (d, lt-leb 32768 k n, ← eu)) a b (omega (arith, weight-drop (m' .shared .trail ++ (k ∷ [])), weight-append (m' .shared .trail) (k ∷ []), weight-cons k [], weight-nil))
 
-        pub met-unmapped-refused : (q : ℕ) → refuse q ≡ unmapped (graphNavigator g) (clearTrail m') → K ≡ stopped (r + 1) q
+        pub met-unmapped-refused : (q : ℕ) → refuse q ≡ unmapped nav (clearTrail m') → K ≡ stopped (r + 1) q
         unfolding after
         met-unmapped-refused q eu = stop l w q (rw (lt-leb 32768 k n, ← eu))
 
-      module _ {s : Step} (w : Round g k m m' (RunStep s)) where
-        pub met-step : (u : State ℕ) → accept u ≡ step (graphNavigator g) s (clearTrail m') → u .shared .trail ≡ [] → Held g B K stack top (r + 1) (drop top stack) u
+      module _ {s : Step} (w : Round nav k m m' (RunStep s)) where
+        pub met-step : (u : State ℕ) → accept u ≡ step nav s (clearTrail m') → u .shared .trail ≡ [] → Held nav B K stack top (r + 1) (drop top stack) u
         unfolding after
         met-step u eu z = let v : weight (u .shared .trail) ≡ 0 = ap weight z ∙ weight-nil in go l w (rw (← eu)) (h .long) (h .low) (omega arith)
 
-        pub met-step-refused : (q : ℕ) → refuse q ≡ step (graphNavigator g) s (clearTrail m') → K ≡ stopped (r + 1) q
+        pub met-step-refused : (q : ℕ) → refuse q ≡ step nav s (clearTrail m') → K ≡ stopped (r + 1) q
         unfolding after
         met-step-refused q eu = stop l w q (rw (← eu))
 
-      module _ {s : Step} (w : Round g k m m' (RetryAfter s)) where
-        pub met-retry : (u : State ℕ) → accept u ≡ step (graphNavigator g) s (clearTrail m') → u .shared .trail ≡ [] → Held g B K stack top (r + 1) (k ∷ drop top stack) u
+      module _ {s : Step} (w : Round nav k m m' (RetryAfter s)) where
+        pub met-retry : (u : State ℕ) → accept u ≡ step nav s (clearTrail m') → u .shared .trail ≡ [] → Held nav B K stack top (r + 1) (k ∷ drop top stack) u
         unfolding after
         met-retry u eu z = let v : weight (u .shared .trail) ≡ 0 = ap weight z ∙ weight-nil in go l w (rw (← eu)) (h .long) (h .low) (omega (arith, weight-cons k (drop top stack)))
 
-        pub met-retry-refused : (q : ℕ) → refuse q ≡ step (graphNavigator g) s (clearTrail m') → K ≡ stopped (r + 1) q
+        pub met-retry-refused : (q : ℕ) → refuse q ≡ step nav s (clearTrail m') → K ≡ stopped (r + 1) q
         unfolding after
         met-retry-refused q eu = stop l w q (rw (← eu))
 

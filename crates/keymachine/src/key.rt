@@ -13,7 +13,7 @@ ghost use Prim.Native.Nat.{_-_, _≤_, _<_};
 ghost use lib.ListN.{length, take, drop};
 ghost use Rattle.rules.specs.KeyLoop as key;
 ghost use Rattle.rules.specs.Calls.{graphNavigator};
-ghost use Rattle.keygraph.specs.View.{graphFrom, graphIn};
+ghost use Rattle.keygraph.specs.View.{graphIn};
 ghost use Rattle.keymachine.specs.Views.{tablesOf, stateOf, keyOf};
 
 // What a key came to. Refused, `refusal` and `rounds` are all that is promised of it and of the lent arrays.
@@ -61,9 +61,7 @@ fn rest_of(key: u16) -> u16
 // The rounds of `input_key`: the outer loop goes over the stack, and the inner one tries one key until it is consumed,
 // needs more, or is unmapped.
 pub fn input_key<'a>(
-    edges: &'a [u64],
-    heads: &'a [u64],
-    acts: &'a [u64],
+    words: &'a [u64; 4128],
     counts: Counts,
     classes: &'a [u64],
     modes: &'a [u64],
@@ -77,9 +75,10 @@ pub fn input_key<'a>(
     first: u16,
     budget: u16,
 ) -> Handled
+    requires { ⌜ length (now words) ≡ 4128 ⌝ }
     requires { ⌜ (length (now queue) ≡ 256) × (length (now sequences) ≡ 520) × (length (now trail) ≡ 64) ⌝ }
     ensures { λ _. ⌜ (length (now (queue .exit)) ≡ 256) × (length (now (sequences .exit)) ≡ 520) × (length (now (trail .exit)) ≡ 64) ⌝ }
-    ensures { λ r. ⌜ keyOf r (tablesOf sizes (now (classes .entry)) (now (modes .entry)) (now (rules .entry))) (now (queue .exit)) (now (sequences .exit)) (now (trail .exit)) ≡ key.inputKey (graphNavigator (graphFrom (now (heads .entry)) (now (acts .entry)) (now (edges .entry)) counts)) (record { key = first; budget = budget }) (stateOf start (tablesOf sizes (now (classes .entry)) (now (modes .entry)) (now (rules .entry))) (now (queue .entry)) (now (sequences .entry)) (take trailed (now (trail .entry)))) ⌝ }
+    ensures { λ r. ⌜ keyOf r (tablesOf sizes (now (classes .entry)) (now (modes .entry)) (now (rules .entry))) (now (queue .exit)) (now (sequences .exit)) (now (trail .exit)) ≡ key.inputKey (graphNavigator (graphIn (now (words .entry)) counts)) (record { key = first; budget = budget }) (stateOf start (tablesOf sizes (now (classes .entry)) (now (modes .entry)) (now (rules .entry))) (now (queue .entry)) (now (sequences .entry)) (take trailed (now (trail .entry)))) ⌝ }
 {
     let mut stack = [0u16; 130];
     stack[129] = first;
@@ -95,7 +94,7 @@ pub fn input_key<'a>(
                 return refused(8, rounds, start);
             }
             rounds = rounds + 1;
-            let t = turn::turn(edges, heads, acts, counts, classes, sizes.classes, s, key);
+            let t = turn::turn(words, counts, classes, sizes.classes, s, key);
             let turned = t.state;
             s = turned;
             let result = t.result;
@@ -125,8 +124,7 @@ pub fn input_key<'a>(
                         continue;
                     }
                     let r = step::unmapped(
-                        heads,
-                        acts,
+                        words,
                         counts.nodes,
                         modes,
                         rules,
@@ -177,47 +175,4 @@ pub fn input_key<'a>(
         state: s,
         trailed: number::narrow(n),
     }
-}
-
-// The same over the words of a graph.
-pub(crate) fn input_on<'a>(
-    words: &'a [u64],
-    counts: Counts,
-    classes: &'a [u64],
-    modes: &'a [u64],
-    rules: &'a [u64],
-    sizes: Sizes,
-    queue: &mut [u64; 256],
-    sequences: &mut [u64; 520],
-    trail: &mut [u16; 64],
-    start: State,
-    trailed: u16,
-    first: u16,
-    budget: u16,
-) -> Handled
-    requires { ⌜ length (now words) ≡ 4128 ⌝ }
-    requires { ⌜ (length (now queue) ≡ 256) × (length (now sequences) ≡ 520) × (length (now trail) ≡ 64) ⌝ }
-    ensures { λ _. ⌜ (length (now (queue .exit)) ≡ 256) × (length (now (sequences .exit)) ≡ 520) × (length (now (trail .exit)) ≡ 64) ⌝ }
-    ensures { λ r. ⌜ keyOf r (tablesOf sizes (now (classes .entry)) (now (modes .entry)) (now (rules .entry))) (now (queue .exit)) (now (sequences .exit)) (now (trail .exit)) ≡ key.inputKey (graphNavigator (graphIn (now (words .entry)) counts)) (record { key = first; budget = budget }) (stateOf start (tablesOf sizes (now (classes .entry)) (now (modes .entry)) (now (rules .entry))) (now (queue .entry)) (now (sequences .entry)) (take trailed (now (trail .entry)))) ⌝ }
-{
-    let edges = &words[0..2048];
-    let heads = &words[2048..3088];
-    let acts = &words[3088..4128];
-    input_key(
-        edges,
-        heads,
-        acts,
-        counts,
-        classes,
-        modes,
-        rules,
-        sizes,
-        queue,
-        sequences,
-        trail,
-        start,
-        trailed,
-        first,
-        budget,
-    )
 }

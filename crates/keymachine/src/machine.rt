@@ -172,7 +172,7 @@ impl ModalMachine {
         let counts = self.graph.counts;
         let sizes = self.tables.sizes;
         let s = self.state;
-        let r = key::input_on(
+        let r = key::input_key(
             &self.graph.words,
             counts,
             &self.tables.classes,

@@ -19,12 +19,12 @@ ghost use Rattle.rules.specs.KeyLoop as key;
 ghost use Rattle.rules.specs.Graph as g;
 ghost use Rattle.rules.specs.Calls.{graphNavigator};
 ghost use Rattle.keyparts.specs.View.{maybeOf, stepOf, nodesOf, graphBy};
+ghost use Rattle.keygraph.specs.View.{headWords, actWords};
 ghost use Rattle.keymachine.specs.Views.{outcome, rulesOf, modesOf, tables, sharedOf, stateOf};
 
 // The list of the node's mode is given, and its next mode entered; without one, the entered mode anew.
 pub(crate) fn unmapped<'a>(
-    heads: &'a [u64],
-    acts: &'a [u64],
+    words: &'a [u64; 4128],
     nodes: u16,
     modes: &'a [u64],
     rules: &'a [u64],
@@ -33,10 +33,14 @@ pub(crate) fn unmapped<'a>(
     sequences: &mut [u64; 520],
     s: State,
 ) -> Moved
+    requires { ⌜ length (now words) ≡ 4128 ⌝ }
     requires { ⌜ (length (now queue) ≡ 256) × (length (now sequences) ≡ 520) ⌝ }
     ensures { λ _. ⌜ (length (now (queue .exit)) ≡ 256) × (length (now (sequences .exit)) ≡ 520) ⌝ }
-    ensures { λ r. ⌜ ((cs : List t.ClassEntry) (es : List g.Edge) (tr : List ℕ) → outcome (r .refusal) (stateOf (r .state) (tables cs (modesOf (sizes .modes) (now (modes .entry))) (rulesOf (sizes .rules) (now (rules .entry)))) (now (queue .exit)) (now (sequences .exit)) tr) ≡ key.unmapped (graphNavigator (graphBy (nodesOf (now (heads .entry)) (now (acts .entry)) nodes) es)) (stateOf s (tables cs (modesOf (sizes .modes) (now (modes .entry))) (rulesOf (sizes .rules) (now (rules .entry)))) (now (queue .entry)) (now (sequences .entry)) tr)) ⌝ }
+    ensures { λ r. ⌜ ((cs : List t.ClassEntry) (es : List g.Edge) (tr : List ℕ) → outcome (r .refusal) (stateOf (r .state) (tables cs (modesOf (sizes .modes) (now (modes .entry))) (rulesOf (sizes .rules) (now (rules .entry)))) (now (queue .exit)) (now (sequences .exit)) tr) ≡ key.unmapped (graphNavigator (graphBy (nodesOf (headWords (now (words .entry))) (actWords (now (words .entry))) nodes) es)) (stateOf s (tables cs (modesOf (sizes .modes) (now (modes .entry))) (rulesOf (sizes .rules) (now (rules .entry)))) (now (queue .entry)) (now (sequences .entry)) tr)) ⌝ }
 {
+    let all = &words[..];
+    let heads = &all[2048..3088];
+    let acts = &all[3088..4128];
     let n = node::node_at(heads, acts, nodes, s.place);
     let e = mode::mode_entry(modes, sizes.modes, n.mode);
     let actions = e.unmapped;

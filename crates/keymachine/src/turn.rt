@@ -10,11 +10,12 @@ use keygraph::node::NodeAction;
 use keygraph::step::Step;
 ghost use mathlib.Core.Path.{_≡_};
 ghost use mathlib.Core.List.{List};
+ghost use lib.ListN.{length};
 ghost use Rattle.rules.specs.Values as v;
 ghost use Rattle.rules.specs.Graph as g;
 ghost use Rattle.rules.specs.Calls as c;
 ghost use Rattle.keyparts.specs.View.{nodeOf, stepOf, edgesOf, classesOf, graphBy};
-ghost use Rattle.keygraph.specs.View.{graphFrom};
+ghost use Rattle.keygraph.specs.View.{graphIn};
 ghost use Rattle.keymachine.specs.Views.{resultBy, Turns};
 
 // The step of `RunStep` and `RetryAfter` stands beside the result, since an enum here holds no array.
@@ -68,17 +69,20 @@ fn land(node: Node, to: u16) -> InputResult
 }
 
 pub(crate) fn turn<'a>(
-    edges: &'a [u64],
-    heads: &'a [u64],
-    acts: &'a [u64],
+    words: &'a [u64; 4128],
     counts: Counts,
     classes: &'a [u64],
     entries: u16,
     s: State,
     key: u16,
 ) -> Turned
-    ensures { λ r. ⌜ Turns (c.turnBy (graphFrom (now (heads .entry)) (now (acts .entry)) (now (edges .entry)) counts) (s .place) (g.followEdge (classesOf (now (classes .entry)) entries) (graphFrom (now (heads .entry)) (now (acts .entry)) (now (edges .entry)) counts) (s .place) key)) key s r ⌝ }
+    requires { ⌜ length (now words) ≡ 4128 ⌝ }
+    ensures { λ r. ⌜ Turns (c.turnBy (graphIn (now (words .entry)) counts) (s .place) (g.followEdge (classesOf (now (classes .entry)) entries) (graphIn (now (words .entry)) counts) (s .place) key)) key s r ⌝ }
 {
+    let all = &words[..];
+    let edges = &all[0..2048];
+    let heads = &all[2048..3088];
+    let acts = &all[3088..4128];
     let f = follow::follow_edge(edges, counts.edges, classes, entries, s.place, key);
     match f {
         FollowResult::Successor(event, to) => {

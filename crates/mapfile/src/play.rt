@@ -18,7 +18,7 @@ ghost use lib.ListN.{length};
 ghost use Rattle.rules.specs.Basics.{accept};
 ghost use Rattle.rules.specs.Calls.{graphKind, fresh};
 ghost use Rattle.rules.specs.Run.{readKeys, playKeys, run};
-ghost use Rattle.keygraph.specs.View.{graphFrom, graphIn};
+ghost use Rattle.keygraph.specs.View.{graphIn};
 ghost use Rattle.keymachine.specs.Views.{tablesOf};
 ghost use Rattle.mapfile.specs.View.{machineBy, Within, Ends};
 
@@ -31,9 +31,7 @@ pub enum Ran {
 // After each key its pairs are written, and the queue is empty.
 fn play_keys<'a>(
     keys: &[u8],
-    edges: &'a [u64],
-    heads: &'a [u64],
-    acts: &'a [u64],
+    words: &'a [u64; 4128],
     counts: Counts,
     classes: &'a [u64],
     modes: &'a [u64],
@@ -43,9 +41,9 @@ fn play_keys<'a>(
     room: usize,
     budget: u16,
 ) -> Ran
-    requires { ⌜ room ≤ length (now out) ⌝ }
+    requires { ⌜ (length (now words) ≡ 4128) × (room ≤ length (now out)) ⌝ }
     ensures { λ r. ⌜ Within room r ⌝ }
-    ensures { λ r. ⌜ ((ks : List ℕ) → readKeys (now (keys .entry)) ≡ accept ks → Ends (playKeys budget room ks (machineBy (graphFrom (now (heads .entry)) (now (acts .entry)) (now (edges .entry)) counts) (fresh graphKind (tablesOf sizes (now (classes .entry)) (now (modes .entry)) (now (rules .entry))) .state)) []) r (now (out .entry)) (now (out .exit))) ⌝ }
+    ensures { λ r. ⌜ ((ks : List ℕ) → readKeys (now (keys .entry)) ≡ accept ks → Ends (playKeys budget room ks (machineBy (graphIn (now (words .entry)) counts) (fresh graphKind (tablesOf sizes (now (classes .entry)) (now (modes .entry)) (now (rules .entry))) .state)) []) r (now (out .entry)) (now (out .exit))) ⌝ }
 {
     let mut queue = [0u64; 256];
     let mut sequences = [0u64; 520];
@@ -65,9 +63,7 @@ fn play_keys<'a>(
             Read::Bad => return Ran::Refused(9),
             Read::Number { value, next } => {
                 let k = key::input_key(
-                    edges,
-                    heads,
-                    acts,
+                    words,
                     counts,
                     classes,
                     modes,
@@ -105,42 +101,6 @@ fn play_keys<'a>(
     Ran::Wrote(written)
 }
 
-// The same over the words of a graph.
-fn play_on<'a>(
-    keys: &[u8],
-    words: &'a [u64],
-    counts: Counts,
-    classes: &'a [u64],
-    modes: &'a [u64],
-    rules: &'a [u64],
-    sizes: Sizes,
-    out: &mut [u8],
-    room: usize,
-    budget: u16,
-) -> Ran
-    requires { ⌜ (length (now words) ≡ 4128) × (room ≤ length (now out)) ⌝ }
-    ensures { λ r. ⌜ Within room r ⌝ }
-    ensures { λ r. ⌜ ((ks : List ℕ) → readKeys (now (keys .entry)) ≡ accept ks → Ends (playKeys budget room ks (machineBy (graphIn (now (words .entry)) counts) (fresh graphKind (tablesOf sizes (now (classes .entry)) (now (modes .entry)) (now (rules .entry))) .state)) []) r (now (out .entry)) (now (out .exit))) ⌝ }
-{
-    let edges = &words[0..2048];
-    let heads = &words[2048..3088];
-    let acts = &words[3088..4128];
-    play_keys(
-        keys,
-        edges,
-        heads,
-        acts,
-        counts,
-        classes,
-        modes,
-        rules,
-        sizes,
-        out,
-        room,
-        budget,
-    )
-}
-
 // The map is read whole before the keys, and all keys before the first is tried.
 pub(crate) fn play(map: &[u8], keys: &[u8], out: &mut [u8], room: usize, budget: u16) -> Ran
     requires { ⌜ room ≤ length (now out) ⌝ }
@@ -156,7 +116,7 @@ pub(crate) fn play(map: &[u8], keys: &[u8], out: &mut [u8], room: usize, budget:
     if keys::check_keys(keys) {
         let counts = m.counts;
         let sizes = m.sizes;
-        return play_on(
+        return play_keys(
             keys,
             &m.words,
             counts,

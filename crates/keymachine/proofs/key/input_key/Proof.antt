@@ -10,7 +10,7 @@ use Rattle.rules.specs.Basics.{Result}
 use Rattle.rules.specs.KeyLoop.{State, KeyResult, loop, inputKey}
 use Rattle.rules.specs.Calls.{graphNavigator}
 use Rattle.keyparts.specs.View.{stepOf, classesOf, edgesOf}
-use Rattle.keygraph.specs.View.{graphFrom}
+use Rattle.keygraph.specs.View.{graphIn, edgeWords}
 use Rattle.keymachine.specs.declared.turn.InputResult.{InputResult}
 use Rattle.keymachine.specs.Views.{outcome, tablesOf, stateOf, resultBy, keyOf}
 use Rattle.keymachine.proofs.Lists.{take-min, outcome-ok, outcome-no}
@@ -20,25 +20,25 @@ use Rattle.keymachine.proofs.key.input_key.Statement.{statement}
 use Rattle.keymachine.proofs.key.input_key.Tie as tie
 
 abbrev Inv-loop : tie.InvT-loop
-Inv-loop edges heads acts counts classes modes rules sizes queue₀ sequences₀ trail₀ start trailed first budget stack₀ top₀ s₀ n₀ rounds₀ key₀ queue sequences trail stack top s n rounds key =
-    Held (graphFrom heads acts edges counts) budget
-    (loop (graphNavigator (graphFrom heads acts edges counts)) (budget - rounds₀) rounds₀ (key₀ ∷ drop top₀ stack₀) (stateOf s₀ (tablesOf sizes classes modes rules) queue₀ sequences₀ (take n₀ trail₀)))
+Inv-loop words counts classes modes rules sizes queue₀ sequences₀ trail₀ start trailed first budget stack₀ top₀ s₀ n₀ rounds₀ key₀ queue sequences trail stack top s n rounds key =
+    Held (graphNavigator (graphIn words counts)) budget
+    (loop (graphNavigator (graphIn words counts)) (budget - rounds₀) rounds₀ (key₀ ∷ drop top₀ stack₀) (stateOf s₀ (tablesOf sizes classes modes rules) queue₀ sequences₀ (take n₀ trail₀)))
     stack top rounds (key ∷ drop top stack) (stateOf s (tablesOf sizes classes modes rules) queue sequences (take n trail))
     × Lens queue sequences trail n × (rounds₀ ≤ rounds)
 
 abbrev μ-loop : tie.MeasureT-loop
-μ-loop edges heads acts counts classes modes rules sizes queue₀ sequences₀ trail₀ start trailed first budget stack₀ top₀ s₀ n₀ rounds₀ key₀ queue sequences trail stack top s n rounds key =
+μ-loop words counts classes modes rules sizes queue₀ sequences₀ trail₀ start trailed first budget stack₀ top₀ s₀ n₀ rounds₀ key₀ queue sequences trail stack top s n rounds key =
     budget - rounds
 
 abbrev Inv-keys : tie.InvT-keys
-Inv-keys edges heads acts counts classes modes rules sizes queue₀ sequences₀ trail₀ start trailed first budget stack₀ top₀ s₀ n₀ rounds₀ queue sequences trail stack top s n rounds =
-    Held (graphFrom heads acts edges counts) budget
-    (inputKey (graphNavigator (graphFrom heads acts edges counts)) (record { key = first; budget = budget }) (stateOf start (tablesOf sizes classes modes rules) queue₀ sequences₀ (take trailed trail₀)))
+Inv-keys words counts classes modes rules sizes queue₀ sequences₀ trail₀ start trailed first budget stack₀ top₀ s₀ n₀ rounds₀ queue sequences trail stack top s n rounds =
+    Held (graphNavigator (graphIn words counts)) budget
+    (inputKey (graphNavigator (graphIn words counts)) (record { key = first; budget = budget }) (stateOf start (tablesOf sizes classes modes rules) queue₀ sequences₀ (take trailed trail₀)))
     stack top rounds (drop top stack) (stateOf s (tablesOf sizes classes modes rules) queue sequences (take n trail))
     × Lens queue sequences trail n
 
 abbrev μ-keys : tie.MeasureT-keys
-μ-keys edges heads acts counts classes modes rules sizes queue₀ sequences₀ trail₀ start trailed first budget stack₀ top₀ s₀ n₀ rounds₀ queue sequences trail stack top s n rounds =
+μ-keys words counts classes modes rules sizes queue₀ sequences₀ trail₀ start trailed first budget stack₀ top₀ s₀ n₀ rounds₀ queue sequences trail stack top s n rounds =
     budget - rounds
 
 array-write-stack : tie.Need-array-write-stack Inv-loop μ-loop Inv-keys μ-keys
@@ -48,11 +48,11 @@ least-requires : tie.Need-least-requires Inv-loop μ-loop Inv-keys μ-keys
 least-requires c κs = search needs
 
 keys-holds : tie.Need-keys-holds Inv-loop μ-loop Inv-keys μ-keys
-keys-holds c = let a = c .before .before .before .before .before .before .before .args in let p = c .before .before .before .before .before .before .before .pre in (
-  rw (take-min (a .trailed) 64 (a .trail .now) (c .least .result) (p .2) (c .least .ensures .0))
-      (held-start (graphFrom (a .heads .now) (a .acts .now) (a .edges .now) (a .counts)) (a .budget) (a .first) (stateOf (a .start) (tablesOf (a .sizes) (a .classes .now) (a .modes .now) (a .rules .now)) (a .queue .now) (a .sequences .now) (take (a .trailed) (a .trail .now))) (replicate 130 0) refl
+keys-holds c = let a = c .before .before .before .before .args in let p = c .before .before .before .before .pre in (
+  rw (take-min (a .trailed) 64 (a .trail .now) (c .least .result) (p .1 .2) (c .least .ensures .0))
+      (held-start (graphNavigator (graphIn (a .words .now) (a .counts))) (a .budget) (a .first) (stateOf (a .start) (tablesOf (a .sizes) (a .classes .now) (a .modes .now) (a .rules .now)) (a .queue .now) (a .sequences .now) (take (a .trailed) (a .trail .now))) (replicate 130 0) refl
       (omega (arith, weight-most (a .trailed) (a .trail .now), length-take (a .trailed) (a .trail .now)))),
-  record { queues = p .0; tracked = p .1; trails = p .2; room = c .least .ensures .1 },
+  record { queues = p .1 .0; tracked = p .1 .1; trails = p .1 .2; room = c .least .ensures .1 },
 )
 
 mul-key : tie.Need-mul-key Inv-loop μ-loop Inv-keys μ-keys
@@ -66,22 +66,22 @@ add-top c = search needs
 
 -- what the round of one turn of the inner loop left, by what it came to
 made : (c : tie.After-what Inv-loop μ-loop Inv-keys μ-keys) (y : InputResult) → c .before .before .turn .result .result ≡ y
-    → Round (graphFrom (c .before .before .before .before .before .before .before .before .before .before .before .before .before .before .args .heads .now) (c .before .before .before .before .before .before .before .before .before .before .before .before .before .before .args .acts .now) (c .before .before .before .before .before .before .before .before .before .before .before .before .before .before .args .edges .now) (c .before .before .before .before .before .before .before .before .before .before .before .before .before .before .args .counts)) (c .before .before .before .before .loop .key)
-    (stateOf (c .before .before .before .before .loop .s) (tablesOf (c .before .before .before .before .before .before .before .before .before .before .before .before .before .before .args .sizes) (c .before .before .before .before .before .before .before .before .before .before .before .before .before .before .args .classes .now) (c .before .before .before .before .before .before .before .before .before .before .before .before .before .before .args .modes .now) (c .before .before .before .before .before .before .before .before .before .before .before .before .before .before .args .rules .now)) (c .before .before .before .before .loop .queue) (c .before .before .before .before .loop .sequences) (take (c .before .before .before .before .loop .n) (c .before .before .before .before .loop .trail)))
-    (stateOf (c .before .before .turn .result .state) (tablesOf (c .before .before .before .before .before .before .before .before .before .before .before .before .before .before .args .sizes) (c .before .before .before .before .before .before .before .before .before .before .before .before .before .before .args .classes .now) (c .before .before .before .before .before .before .before .before .before .before .before .before .before .before .args .modes .now) (c .before .before .before .before .before .before .before .before .before .before .before .before .before .before .args .rules .now)) (c .before .before .before .before .loop .queue) (c .before .before .before .before .loop .sequences) (take (c .before .before .before .before .loop .n) (c .before .before .before .before .loop .trail)))
-    (resultBy y (stepOf (c .before .before .turn .result .step)))
+    → let a = c .before .before .before .before .before .before .before .before .before .before .before .args in let L = c .before .before .before .before .loop in let u = c .before .before .turn in
+    let t = tablesOf (a .sizes) (a .classes .now) (a .modes .now) (a .rules .now) in
+    Round (graphNavigator (graphIn (a .words .now) (a .counts))) (L .key) (stateOf (L .s) t (L .queue) (L .sequences) (take (L .n) (L .trail))) (stateOf (u .result .state) t (L .queue) (L .sequences) (take (L .n) (L .trail))) (resultBy y (stepOf (u .result .step)))
 unfolding graphNavigator
-made c y e = let u = c .before .before .turn in
+made c y e = let a = c .before .before .before .before .before .before .before .before .before .before .before .args in let L = c .before .before .before .before .loop in let u = c .before .before .turn in
     record {
       result = sym (u .ensures .result) ∙ ap (λ (z : InputResult). resultBy z (stepOf (u .result .step))) e;
-      state = u .ensures .state (tablesOf (c .before .before .before .before .before .before .before .before .before .before .before .before .before .before .args .sizes) (c .before .before .before .before .before .before .before .before .before .before .before .before .before .before .args .classes .now) (c .before .before .before .before .before .before .before .before .before .before .before .before .before .before .args .modes .now) (c .before .before .before .before .before .before .before .before .before .before .before .before .before .before .args .rules .now)) (c .before .before .before .before .loop .queue) (c .before .before .before .before .loop .sequences) (take (c .before .before .before .before .loop .n) (c .before .before .before .before .loop .trail));
+      state = u .ensures .state (tablesOf (a .sizes) (a .classes .now) (a .modes .now) (a .rules .now)) (L .queue) (L .sequences) (take (L .n) (L .trail));
       trail = refl;
     }
 
 -- the key in hand and the rest of the stack are the stack that the outer loop's turn began with
-popped : (c : tie.At-loop Inv-loop μ-loop Inv-keys μ-keys) → inputKey (graphNavigator (graphFrom (c .before .before .before .before .before .before .before .before .before .before .args .heads .now) (c .before .before .before .before .before .before .before .before .before .before .args .acts .now) (c .before .before .before .before .before .before .before .before .before .before .args .edges .now) (c .before .before .before .before .before .before .before .before .before .before .args .counts))) (record { key = c .before .before .before .before .before .before .before .before .before .before .args .first; budget = c .before .before .before .before .before .before .before .before .before .before .args .budget })
-    (stateOf (c .before .before .before .before .before .before .before .before .before .before .args .start) (tablesOf (c .before .before .before .before .before .before .before .before .before .before .args .sizes) (c .before .before .before .before .before .before .before .before .before .before .args .classes .now) (c .before .before .before .before .before .before .before .before .before .before .args .modes .now) (c .before .before .before .before .before .before .before .before .before .before .args .rules .now)) (c .before .before .before .before .before .before .before .before .before .before .args .queue .now) (c .before .before .before .before .before .before .before .before .before .before .args .sequences .now) (take (c .before .before .before .before .before .before .before .before .before .before .args .trailed) (c .before .before .before .before .before .before .before .before .before .before .args .trail .now)))
-    ≡ loop (graphNavigator (graphFrom (c .before .before .before .before .before .before .before .before .before .before .args .heads .now) (c .before .before .before .before .before .before .before .before .before .before .args .acts .now) (c .before .before .before .before .before .before .before .before .before .before .args .edges .now) (c .before .before .before .before .before .before .before .before .before .before .args .counts))) (c .before .before .before .before .before .before .before .before .before .before .args .budget - c .before .before .keys .rounds) (c .before .before .keys .rounds) (getD (c .before .before .keys .stack) (c .before .before .keys .top) 0 ∷ drop (c .before .before .keys .top + 1) (c .before .before .keys .stack)) (stateOf (c .before .before .keys .s) (tablesOf (c .before .before .before .before .before .before .before .before .before .before .args .sizes) (c .before .before .before .before .before .before .before .before .before .before .args .classes .now) (c .before .before .before .before .before .before .before .before .before .before .args .modes .now) (c .before .before .before .before .before .before .before .before .before .before .args .rules .now)) (c .before .before .keys .queue) (c .before .before .keys .sequences) (take (c .before .before .keys .n) (c .before .before .keys .trail)))
+popped : (c : tie.At-loop Inv-loop μ-loop Inv-keys μ-keys) → let a = c .before .before .before .before .before .before .before .args in let O = c .before .before .keys in
+    let t = tablesOf (a .sizes) (a .classes .now) (a .modes .now) (a .rules .now) in let nav = graphNavigator (graphIn (a .words .now) (a .counts)) in
+    inputKey nav (record { key = a .first; budget = a .budget }) (stateOf (a .start) t (a .queue .now) (a .sequences .now) (take (a .trailed) (a .trail .now)))
+    ≡ loop nav (a .budget - O .rounds) (O .rounds) (getD (O .stack) (O .top) 0 ∷ drop (O .top + 1) (O .stack)) (stateOf (O .s) t (O .queue) (O .sequences) (take (O .n) (O .trail)))
 popped c = held-pop (c .before .before .keys .inv .0) (c .before .keys-test .taken) .same
 
 loop-holds : tie.Need-loop-holds Inv-loop μ-loop Inv-keys μ-keys
@@ -107,7 +107,7 @@ loop-less : tie.Need-loop-less Inv-loop μ-loop Inv-keys μ-keys
 loop-less c = search needs
 
 loop-again : tie.Need-loop-again Inv-loop μ-loop Inv-keys μ-keys
-loop-again c = let a = c .before .before .before .before .before .before .before .before .before .before .before .before .before .before .before .before .args in let L = c .before .before .before .before .before .before .loop in (met-again (L .inv .0) (c .before .before .before .before .before .if1 .left) (made (c .before .before) _ (c .enum-told .given .1)), L .inv .1, search needs)
+loop-again c = let a = c .before .before .before .before .before .before .before .before .before .before .before .before .before .args in let L = c .before .before .before .before .before .before .loop in (met-again (L .inv .0) (c .before .before .before .before .before .if1 .left) (made (c .before .before) _ (c .enum-told .given .1)), L .inv .1, search needs)
 
 enum-told-2 : tie.Need-enum-told-2 Inv-loop μ-loop Inv-keys μ-keys
 enum-told-2 c = search needs
@@ -116,7 +116,7 @@ loop-less-2 : tie.Need-loop-less-2 Inv-loop μ-loop Inv-keys μ-keys
 loop-less-2 c = search needs
 
 loop-again-2 : tie.Need-loop-again-2 Inv-loop μ-loop Inv-keys μ-keys
-loop-again-2 c = let a = c .before .before .before .before .before .before .before .before .before .before .before .before .before .before .before .before .args in let L = c .before .before .before .before .before .before .loop in (met-clear (L .inv .0) (c .before .before .before .before .before .if1 .left) (made (c .before .before) _ (c .enum-told2 .given .1)), lens-zero (L .inv .1), search needs)
+loop-again-2 c = let a = c .before .before .before .before .before .before .before .before .before .before .before .before .before .args in let L = c .before .before .before .before .before .before .loop in (met-clear (L .inv .0) (c .before .before .before .before .before .if1 .left) (made (c .before .before) _ (c .enum-told2 .given .1)), lens-zero (L .inv .1), search needs)
 
 enum-told-3 : tie.Need-enum-told-3 Inv-loop μ-loop Inv-keys μ-keys
 enum-told-3 c = search needs
@@ -125,7 +125,7 @@ keys-less : tie.Need-keys-less Inv-loop μ-loop Inv-keys μ-keys
 keys-less c = search needs
 
 keys-again : tie.Need-keys-again Inv-loop μ-loop Inv-keys μ-keys
-keys-again c = let a = c .before .before .before .before .before .before .before .before .before .before .before .before .before .before .before .before .args in let L = c .before .before .before .before .before .before .loop in (held-from _ (popped (c .before .before .before .before .before .before)) (met-consumed (L .inv .0) (c .before .before .before .before .before .if1 .left) (made (c .before .before) _ (c .enum-told3 .given .1))), lens-zero (L .inv .1))
+keys-again c = let a = c .before .before .before .before .before .before .before .before .before .before .before .before .before .args in let L = c .before .before .before .before .before .before .loop in (held-from _ (popped (c .before .before .before .before .before .before)) (met-consumed (L .inv .0) (c .before .before .before .before .before .if1 .left) (made (c .before .before) _ (c .enum-told3 .given .1))), lens-zero (L .inv .1))
 
 enum-told-4 : tie.Need-enum-told-4 Inv-loop μ-loop Inv-keys μ-keys
 enum-told-4 c = search needs
@@ -134,7 +134,7 @@ refused-requires-2 : tie.Need-refused-requires-2 Inv-loop μ-loop Inv-keys μ-ke
 refused-requires-2 c κs = search needs
 
 returns-2 : tie.Need-returns-2 Inv-loop μ-loop Inv-keys μ-keys
-returns-2 c = let a = c .before .before .before .before .before .before .before .before .before .before .before .before .before .before .before .before .before .before .args in let L = c .before .before .before .before .before .before .before .before .loop in
+returns-2 c = let a = c .before .before .before .before .before .before .before .before .before .before .before .before .before .before .before .args in let L = c .before .before .before .before .before .before .before .before .loop in
     let e : 64 ≤ length (take (L .n) (L .trail)) = omega (arith, length-take (L .n) (L .trail)) in
     ((L .inv .1 .queues, L .inv .1 .tracked, L .inv .1 .trails), rw (c .refused2 .ensures) (sym (popped (c .before .before .before .before .before .before .before .before) ∙ met-full (L .inv .0) (c .before .before .before .before .before .before .before .if1 .left) (made (c .before .before .before .before) _ (c .before .before .enum-told4 .given .1)) e)))
 
@@ -151,7 +151,7 @@ keys-less-2 : tie.Need-keys-less-2 Inv-loop μ-loop Inv-keys μ-keys
 keys-less-2 c = search needs
 
 keys-again-2 : tie.Need-keys-again-2 Inv-loop μ-loop Inv-keys μ-keys
-keys-again-2 c = let a = c .before .before .before .before .before .before .before .before .before .before .before .before .before .before .before .before .before .args in let L = c .before .before .before .before .before .before .before .loop in
+keys-again-2 c = let a = c .before .before .before .before .before .before .before .before .before .before .before .before .before .before .args in let L = c .before .before .before .before .before .before .before .loop in
     let i : L .n < length (L .trail) = omega arith in
     let e : length (take (L .n) (L .trail)) < 64 = omega (arith, length-take (L .n) (L .trail)) in (
       rw (take-more (L .trail) (L .n) (L .key) i) (held-from _ (popped (c .before .before .before .before .before .before .before)) (met-more (L .inv .0) (c .before .before .before .before .before .before .if1 .left) (made (c .before .before .before) _ (c .before .enum-told4 .given .1)) e)),
@@ -177,7 +177,7 @@ loop-less-3 : tie.Need-loop-less-3 Inv-loop μ-loop Inv-keys μ-keys
 loop-less-3 c = search needs
 
 loop-again-3 : tie.Need-loop-again-3 Inv-loop μ-loop Inv-keys μ-keys
-loop-again-3 c = let a = c .before .before .before .before .before .before .before .before .before .before .before .before .before .before .before .before .before .before .args in let L = c .before .before .before .before .before .before .before .before .loop in let o = c .rest-of in
+loop-again-3 c = let a = c .before .before .before .before .before .before .before .before .before .before .before .before .before .before .before .args in let L = c .before .before .before .before .before .before .before .before .loop in let o = c .rest-of in
     let r = held-room (L .inv .0) in
     let p : 0 < L .top = omega arith in
     let b : L .top ≤ length (L .stack) = omega arith in (
@@ -194,19 +194,19 @@ refused-requires-3 : tie.Need-refused-requires-3 Inv-loop μ-loop Inv-keys μ-ke
 refused-requires-3 c κs = search needs
 
 returns-3 : tie.Need-returns-3 Inv-loop μ-loop Inv-keys μ-keys
-returns-3 c = let a = c .before .before .before .before .before .before .before .before .before .before .before .before .before .before .before .before .before .before .before .before .before .before .before .args in let L = c .before .before .before .before .before .before .before .before .before .before .before .before .before .loop in let r = c .before .before .before .unmapped in (
+returns-3 c = let a = c .before .before .before .before .before .before .before .before .before .before .before .before .before .before .before .before .before .before .before .before .args in let L = c .before .before .before .before .before .before .before .before .before .before .before .before .before .loop in let r = c .before .before .before .unmapped in (
   (r .ensures .0 .0, r .ensures .0 .1, L .inv .1 .trails),
   rw (c .refused3 .ensures)
       (ap (λ (y : Result (State ℕ)). record { rounds = L .rounds + 1; result = y }) (outcome-no (r .result .refusal) _ (c .before .if4 .taken))
-      ∙ sym (popped (c .before .before .before .before .before .before .before .before .before .before .before .before .before) ∙ met-unmapped-refused (L .inv .0) (c .before .before .before .before .before .before .before .before .before .before .before .before .if1 .left) (made (c .before .before .before .before .before .before .before .before .before) _ (c .before .before .before .before .before .before .before .enum-told5 .given .1)) (c .before .before .before .before .before .before .if3 .left) (r .result .refusal) (sym (outcome-no (r .result .refusal) _ (c .before .if4 .taken)) ∙ r .ensures .1 (classesOf (a .classes .now) (a .sizes .classes)) (edgesOf (a .edges .now) (a .counts .edges)) []))),
+      ∙ sym (popped (c .before .before .before .before .before .before .before .before .before .before .before .before .before) ∙ met-unmapped-refused (L .inv .0) (c .before .before .before .before .before .before .before .before .before .before .before .before .if1 .left) (made (c .before .before .before .before .before .before .before .before .before) _ (c .before .before .before .before .before .before .before .enum-told5 .given .1)) (c .before .before .before .before .before .before .if3 .left) (r .result .refusal) (sym (outcome-no (r .result .refusal) _ (c .before .if4 .taken)) ∙ r .ensures .1 (classesOf (a .classes .now) (a .sizes .classes)) (edgesOf (edgeWords (a .words .now)) (a .counts .edges)) []))),
 )
 
 keys-less-3 : tie.Need-keys-less-3 Inv-loop μ-loop Inv-keys μ-keys
 keys-less-3 c = search needs
 
 keys-again-3 : tie.Need-keys-again-3 Inv-loop μ-loop Inv-keys μ-keys
-keys-again-3 c = let a = c .before .before .before .before .before .before .before .before .before .before .before .before .before .before .before .before .before .before .before .before .before .before .before .before .args in let L = c .before .before .before .before .before .before .before .before .before .before .before .before .before .before .loop in let r = c .before .before .before .before .unmapped in (
-  held-from _ (popped (c .before .before .before .before .before .before .before .before .before .before .before .before .before .before)) (met-unmapped (L .inv .0) (c .before .before .before .before .before .before .before .before .before .before .before .before .before .if1 .left) (made (c .before .before .before .before .before .before .before .before .before .before) _ (c .before .before .before .before .before .before .before .before .enum-told5 .given .1)) (c .before .before .before .before .before .before .before .if3 .left) _ (sym (outcome-ok (r .result .refusal) _ (c .before .before .if4 .left)) ∙ r .ensures .1 (classesOf (a .classes .now) (a .sizes .classes)) (edgesOf (a .edges .now) (a .counts .edges)) []) refl
+keys-again-3 c = let a = c .before .before .before .before .before .before .before .before .before .before .before .before .before .before .before .before .before .before .before .before .before .args in let L = c .before .before .before .before .before .before .before .before .before .before .before .before .before .before .loop in let r = c .before .before .before .before .unmapped in (
+  held-from _ (popped (c .before .before .before .before .before .before .before .before .before .before .before .before .before .before)) (met-unmapped (L .inv .0) (c .before .before .before .before .before .before .before .before .before .before .before .before .before .if1 .left) (made (c .before .before .before .before .before .before .before .before .before .before) _ (c .before .before .before .before .before .before .before .before .enum-told5 .given .1)) (c .before .before .before .before .before .before .before .if3 .left) _ (sym (outcome-ok (r .result .refusal) _ (c .before .before .if4 .left)) ∙ r .ensures .1 (classesOf (a .classes .now) (a .sizes .classes)) (edgesOf (edgeWords (a .words .now)) (a .counts .edges)) []) refl
       (L .stack) (L .top) (L .inv .0 .long) (L .inv .0 .low) (back-none (L .trail) (drop (L .top) (L .stack)) (L .n) (L .key) (c .if5 .taken))),
   record { queues = r .ensures .0 .0; tracked = r .ensures .0 .1; trails = L .inv .1 .trails; room = search needs },
 )
@@ -221,8 +221,8 @@ keys-less-4 : tie.Need-keys-less-4 Inv-loop μ-loop Inv-keys μ-keys
 keys-less-4 c = search needs
 
 keys-again-4 : tie.Need-keys-again-4 Inv-loop μ-loop Inv-keys μ-keys
-keys-again-4 c = let a = c .before .before .before .before .before .before .before .before .before .before .before .before .before .before .before .before .before .before .before .before .before .before .before .before .before .before .before .args in let L = c .before .before .before .before .before .before .before .before .before .before .before .before .before .before .before .before .before .loop in let r = c .before .before .before .before .before .before .before .unmapped in (
-  held-from _ (popped (c .before .before .before .before .before .before .before .before .before .before .before .before .before .before .before .before .before)) (met-unmapped (L .inv .0) (c .before .before .before .before .before .before .before .before .before .before .before .before .before .before .before .before .if1 .left) (made (c .before .before .before .before .before .before .before .before .before .before .before .before .before) _ (c .before .before .before .before .before .before .before .before .before .before .before .enum-told5 .given .1)) (c .before .before .before .before .before .before .before .before .before .before .if3 .left) _ (sym (outcome-ok (r .result .refusal) _ (c .before .before .before .before .before .if4 .left)) ∙ r .ensures .1 (classesOf (a .classes .now) (a .sizes .classes)) (edgesOf (a .edges .now) (a .counts .edges)) []) refl
+keys-again-4 c = let a = c .before .before .before .before .before .before .before .before .before .before .before .before .before .before .before .before .before .before .before .before .before .before .before .before .args in let L = c .before .before .before .before .before .before .before .before .before .before .before .before .before .before .before .before .before .loop in let r = c .before .before .before .before .before .before .before .unmapped in (
+  held-from _ (popped (c .before .before .before .before .before .before .before .before .before .before .before .before .before .before .before .before .before)) (met-unmapped (L .inv .0) (c .before .before .before .before .before .before .before .before .before .before .before .before .before .before .before .before .if1 .left) (made (c .before .before .before .before .before .before .before .before .before .before .before .before .before) _ (c .before .before .before .before .before .before .before .before .before .before .before .enum-told5 .given .1)) (c .before .before .before .before .before .before .before .before .before .before .if3 .left) _ (sym (outcome-ok (r .result .refusal) _ (c .before .before .before .before .before .if4 .left)) ∙ r .ensures .1 (classesOf (a .classes .now) (a .sizes .classes)) (edgesOf (edgeWords (a .words .now)) (a .counts .edges)) []) refl
       (c .put-back .last .0) (L .top - L .n) (c .put-back .ensures .0) (omega (arith, L .inv .0 .low)) (c .put-back .ensures .1 ∙ back-some (L .trail) (drop (L .top) (L .stack)) (L .n) (L .key) (L .inv .1 .trails) (c .before .before .before .if5 .left))),
   record { queues = r .ensures .0 .0; tracked = r .ensures .0 .1; trails = L .inv .1 .trails; room = search needs },
 )
@@ -237,19 +237,19 @@ refused-requires-4 : tie.Need-refused-requires-4 Inv-loop μ-loop Inv-keys μ-ke
 refused-requires-4 c κs = search needs
 
 returns-4 : tie.Need-returns-4 Inv-loop μ-loop Inv-keys μ-keys
-returns-4 c = let a = c .before .before .before .before .before .before .before .before .before .before .before .before .before .before .before .before .before .before .before .before .before .before .args in let L = c .before .before .before .before .before .before .before .before .before .before .before .before .loop in let r = c .before .before .before .step in (
+returns-4 c = let a = c .before .before .before .before .before .before .before .before .before .before .before .before .before .before .before .before .before .before .before .args in let L = c .before .before .before .before .before .before .before .before .before .before .before .before .loop in let r = c .before .before .before .step in (
   (r .ensures .0 .0, r .ensures .0 .1, L .inv .1 .trails),
   rw (c .refused4 .ensures)
       (ap (λ (y : Result (State ℕ)). record { rounds = L .rounds + 1; result = y }) (outcome-no (r .result .refusal) _ (c .before .if6 .taken))
-      ∙ sym (popped (c .before .before .before .before .before .before .before .before .before .before .before .before) ∙ met-step-refused (L .inv .0) (c .before .before .before .before .before .before .before .before .before .before .before .if1 .left) (made (c .before .before .before .before .before .before .before .before) _ (c .before .before .before .before .before .before .enum-told6 .given .1)) (r .result .refusal) (sym (outcome-no (r .result .refusal) _ (c .before .if6 .taken)) ∙ r .ensures .1 (classesOf (a .classes .now) (a .sizes .classes)) (graphFrom (a .heads .now) (a .acts .now) (a .edges .now) (a .counts)) []))),
+      ∙ sym (popped (c .before .before .before .before .before .before .before .before .before .before .before .before) ∙ met-step-refused (L .inv .0) (c .before .before .before .before .before .before .before .before .before .before .before .if1 .left) (made (c .before .before .before .before .before .before .before .before) _ (c .before .before .before .before .before .before .enum-told6 .given .1)) (r .result .refusal) (sym (outcome-no (r .result .refusal) _ (c .before .if6 .taken)) ∙ r .ensures .1 (classesOf (a .classes .now) (a .sizes .classes)) (graphIn (a .words .now) (a .counts)) []))),
 )
 
 keys-less-5 : tie.Need-keys-less-5 Inv-loop μ-loop Inv-keys μ-keys
 keys-less-5 c = search needs
 
 keys-again-5 : tie.Need-keys-again-5 Inv-loop μ-loop Inv-keys μ-keys
-keys-again-5 c = let a = c .before .before .before .before .before .before .before .before .before .before .before .before .before .before .before .before .before .before .before .before .before .before .args in let L = c .before .before .before .before .before .before .before .before .before .before .before .before .loop in let r = c .before .before .before .step in (
-  held-from _ (popped (c .before .before .before .before .before .before .before .before .before .before .before .before)) (met-step (L .inv .0) (c .before .before .before .before .before .before .before .before .before .before .before .if1 .left) (made (c .before .before .before .before .before .before .before .before) _ (c .before .before .before .before .before .before .enum-told6 .given .1)) _ (sym (outcome-ok (r .result .refusal) _ (c .before .if6 .left)) ∙ r .ensures .1 (classesOf (a .classes .now) (a .sizes .classes)) (graphFrom (a .heads .now) (a .acts .now) (a .edges .now) (a .counts)) []) refl),
+keys-again-5 c = let a = c .before .before .before .before .before .before .before .before .before .before .before .before .before .before .before .before .before .before .before .args in let L = c .before .before .before .before .before .before .before .before .before .before .before .before .loop in let r = c .before .before .before .step in (
+  held-from _ (popped (c .before .before .before .before .before .before .before .before .before .before .before .before)) (met-step (L .inv .0) (c .before .before .before .before .before .before .before .before .before .before .before .if1 .left) (made (c .before .before .before .before .before .before .before .before) _ (c .before .before .before .before .before .before .enum-told6 .given .1)) _ (sym (outcome-ok (r .result .refusal) _ (c .before .if6 .left)) ∙ r .ensures .1 (classesOf (a .classes .now) (a .sizes .classes)) (graphIn (a .words .now) (a .counts)) []) refl),
   record { queues = r .ensures .0 .0; tracked = r .ensures .0 .1; trails = L .inv .1 .trails; room = search needs },
 )
 
@@ -263,19 +263,19 @@ refused-requires-5 : tie.Need-refused-requires-5 Inv-loop μ-loop Inv-keys μ-ke
 refused-requires-5 c κs = search needs
 
 returns-5 : tie.Need-returns-5 Inv-loop μ-loop Inv-keys μ-keys
-returns-5 c = let a = c .before .before .before .before .before .before .before .before .before .before .before .before .before .before .before .before .before .before .before .before .before .before .args in let L = c .before .before .before .before .before .before .before .before .before .before .before .before .loop in let r = c .before .before .before .step2 in (
+returns-5 c = let a = c .before .before .before .before .before .before .before .before .before .before .before .before .before .before .before .before .before .before .before .args in let L = c .before .before .before .before .before .before .before .before .before .before .before .before .loop in let r = c .before .before .before .step2 in (
   (r .ensures .0 .0, r .ensures .0 .1, L .inv .1 .trails),
   rw (c .refused5 .ensures)
       (ap (λ (y : Result (State ℕ)). record { rounds = L .rounds + 1; result = y }) (outcome-no (r .result .refusal) _ (c .before .if7 .taken))
-      ∙ sym (popped (c .before .before .before .before .before .before .before .before .before .before .before .before) ∙ met-retry-refused (L .inv .0) (c .before .before .before .before .before .before .before .before .before .before .before .if1 .left) (made (c .before .before .before .before .before .before .before .before) _ (c .before .before .before .before .before .before .enum-told7 .given .1)) (r .result .refusal) (sym (outcome-no (r .result .refusal) _ (c .before .if7 .taken)) ∙ r .ensures .1 (classesOf (a .classes .now) (a .sizes .classes)) (graphFrom (a .heads .now) (a .acts .now) (a .edges .now) (a .counts)) []))),
+      ∙ sym (popped (c .before .before .before .before .before .before .before .before .before .before .before .before) ∙ met-retry-refused (L .inv .0) (c .before .before .before .before .before .before .before .before .before .before .before .if1 .left) (made (c .before .before .before .before .before .before .before .before) _ (c .before .before .before .before .before .before .enum-told7 .given .1)) (r .result .refusal) (sym (outcome-no (r .result .refusal) _ (c .before .if7 .taken)) ∙ r .ensures .1 (classesOf (a .classes .now) (a .sizes .classes)) (graphIn (a .words .now) (a .counts)) []))),
 )
 
 loop-less-4 : tie.Need-loop-less-4 Inv-loop μ-loop Inv-keys μ-keys
 loop-less-4 c = search needs
 
 loop-again-4 : tie.Need-loop-again-4 Inv-loop μ-loop Inv-keys μ-keys
-loop-again-4 c = let a = c .before .before .before .before .before .before .before .before .before .before .before .before .before .before .before .before .before .before .before .before .before .before .args in let L = c .before .before .before .before .before .before .before .before .before .before .before .before .loop in let r = c .before .before .before .step2 in (
-  met-retry (L .inv .0) (c .before .before .before .before .before .before .before .before .before .before .before .if1 .left) (made (c .before .before .before .before .before .before .before .before) _ (c .before .before .before .before .before .before .enum-told7 .given .1)) _ (sym (outcome-ok (r .result .refusal) _ (c .before .if7 .left)) ∙ r .ensures .1 (classesOf (a .classes .now) (a .sizes .classes)) (graphFrom (a .heads .now) (a .acts .now) (a .edges .now) (a .counts)) []) refl,
+loop-again-4 c = let a = c .before .before .before .before .before .before .before .before .before .before .before .before .before .before .before .before .before .before .before .args in let L = c .before .before .before .before .before .before .before .before .before .before .before .before .loop in let r = c .before .before .before .step2 in (
+  met-retry (L .inv .0) (c .before .before .before .before .before .before .before .before .before .before .before .if1 .left) (made (c .before .before .before .before .before .before .before .before) _ (c .before .before .before .before .before .before .enum-told7 .given .1)) _ (sym (outcome-ok (r .result .refusal) _ (c .before .if7 .left)) ∙ r .ensures .1 (classesOf (a .classes .now) (a .sizes .classes)) (graphIn (a .words .now) (a .counts)) []) refl,
   record { queues = r .ensures .0 .0; tracked = r .ensures .0 .1; trails = L .inv .1 .trails; room = search needs },
   search needs,
 )

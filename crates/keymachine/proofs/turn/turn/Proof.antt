@@ -2,12 +2,39 @@
 use mathlib.Core.Path.{_≡_, refl, sym, ap, _∙_}
 use Rattle.rules.specs.Graph.{followEdge}
 use Rattle.keyparts.specs.View.{nodeOf, eventOf, followOf, nodesOf, edgesOf, classesOf}
-use Rattle.keygraph.specs.View.{graphFrom}
+use Rattle.keygraph.specs.View.{graphIn, edgeWords, headWords, actWords}
 use Rattle.keymachine.specs.Views.{sharedOf, resultBy, contextOf}
 use Rattle.keymachine.proofs.Rounds.{by-result, by-state, falls-result, falls-state, stuck-result, stuck-state}
 use borrow.Author.Needs.{needs}
 use Rattle.keymachine.proofs.turn.turn.Statement.{statement}
 use Rattle.keymachine.proofs.turn.turn.Tie as tie
+
+sub-edges : tie.Need-sub-edges
+sub-edges c = search needs
+
+part-edges-start : tie.Need-part-edges-start
+part-edges-start c = search needs
+
+part-edges-end : tie.Need-part-edges-end
+part-edges-end c = search needs
+
+sub-heads : tie.Need-sub-heads
+sub-heads c = search needs
+
+part-heads-start : tie.Need-part-heads-start
+part-heads-start c = search needs
+
+part-heads-end : tie.Need-part-heads-end
+part-heads-end c = search needs
+
+sub-acts : tie.Need-sub-acts
+sub-acts c = search needs
+
+part-acts-start : tie.Need-part-acts-start
+part-acts-start c = search needs
+
+part-acts-end : tie.Need-part-acts-end
+part-acts-end c = search needs
 
 follow-edge-requires : tie.Need-follow-edge-requires
 follow-edge-requires c κs = search needs
@@ -25,11 +52,12 @@ event-requires : tie.Need-event-requires
 event-requires c κs = search needs
 
 returns : tie.Need-returns
-returns c = let a = c .before .before .before .before .before .before .before .before .before .before .before .before .before .args in let g = graphFrom (a .heads .now) (a .acts .now) (a .edges .now) (a .counts) in let ns = nodesOf (a .heads .now) (a .acts .now) (a .counts .nodes) in
+unfolding edgeWords headWords actWords
+returns c = let a = c .before .before .before .before .before .before .before .before .before .before .before .before .before .before .args in let g = graphIn (a .words .now) (a .counts) in let ns = nodesOf (headWords (a .words .now)) (actWords (a .words .now)) (a .counts .nodes) in
     let f = followEdge (classesOf (a .classes .now) (a .entries)) g (a .s .place) (a .key) in
     let e = sym (ap followOf (c .before .before .before .before .before .before .f .given .1)) ∙ c .before .before .before .before .before .before .before .before .follow-edge .ensures ns in
     record {
-      result = by-result g (a .s .place) f (eventOf (c .before .before .before .before .before .before .f .given .0 .0)) (c .before .before .before .before .before .before .f .given .0 .1 .0) e _ (nodeOf (c .before .before .before .before .node-at .result)) (c .before .before .before .before .node-at .ensures (edgesOf (a .edges .now) (a .counts .edges))) (c .before .before .before .arrive .ensures ns (eventOf (c .before .before .before .before .before .before .f .given .0 .0)));
+      result = by-result g (a .s .place) f (eventOf (c .before .before .before .before .before .before .f .given .0 .0)) (c .before .before .before .before .before .before .f .given .0 .1 .0) e _ (nodeOf (c .before .before .before .before .node-at .result)) (c .before .before .before .before .node-at .ensures (edgesOf (edgeWords (a .words .now)) (a .counts .edges))) (c .before .before .before .arrive .ensures ns (eventOf (c .before .before .before .before .before .before .f .given .0 .0)));
       state = λ t q sq tr. by-state g (a .s .place) f (eventOf (c .before .before .before .before .before .before .f .given .0 .0)) (c .before .before .before .before .before .before .f .given .0 .1 .0) e (a .key) (contextOf (c .event .result)) (sharedOf (a .s) t q sq tr) (c .event .ensures);
     }
 
@@ -43,11 +71,12 @@ land-requires : tie.Need-land-requires
 land-requires c κs = search needs
 
 returns-2 : tie.Need-returns-2
-returns-2 c = let a = c .before .before .before .before .before .before .before .before .before .before .before .before .args in let g = graphFrom (a .heads .now) (a .acts .now) (a .edges .now) (a .counts) in let ns = nodesOf (a .heads .now) (a .acts .now) (a .counts .nodes) in
+unfolding edgeWords headWords actWords
+returns-2 c = let a = c .before .before .before .before .before .before .before .before .before .before .before .before .before .args in let g = graphIn (a .words .now) (a .counts) in let ns = nodesOf (headWords (a .words .now)) (actWords (a .words .now)) (a .counts .nodes) in
     let f = followEdge (classesOf (a .classes .now) (a .entries)) g (a .s .place) (a .key) in
     let e = sym (ap followOf (c .before .before .before .before .before .f2 .given .1)) ∙ c .before .before .before .before .before .before .before .follow-edge .ensures ns in
     record {
-      result = falls-result g (a .s .place) f (c .before .before .before .before .before .f2 .given .0 .0) e _ (nodeOf (c .before .before .before .node-at2 .result)) (c .before .before .before .node-at2 .ensures (edgesOf (a .edges .now) (a .counts .edges))) (c .before .before .land .ensures);
+      result = falls-result g (a .s .place) f (c .before .before .before .before .before .f2 .given .0 .0) e _ (nodeOf (c .before .before .before .node-at2 .result)) (c .before .before .before .node-at2 .ensures (edgesOf (edgeWords (a .words .now)) (a .counts .edges))) (c .before .before .land .ensures);
       state = λ t q sq tr. falls-state g (a .s .place) f (c .before .before .before .before .before .f2 .given .0 .0) e (a .key) (sharedOf (a .s) t q sq tr);
     }
 
@@ -58,7 +87,8 @@ default-requires : tie.Need-default-requires
 default-requires c κs = search needs
 
 returns-3 : tie.Need-returns-3
-returns-3 c = let a = c .before .before .before .before .before .before .before .before .args in let g = graphFrom (a .heads .now) (a .acts .now) (a .edges .now) (a .counts) in let ns = nodesOf (a .heads .now) (a .acts .now) (a .counts .nodes) in
+unfolding edgeWords headWords actWords
+returns-3 c = let a = c .before .before .before .before .before .before .before .before .before .args in let g = graphIn (a .words .now) (a .counts) in let ns = nodesOf (headWords (a .words .now)) (actWords (a .words .now)) (a .counts .nodes) in
     let f = followEdge (classesOf (a .classes .now) (a .entries)) g (a .s .place) (a .key) in
     let e = sym (ap followOf (c .before .enum-told .given .1)) ∙ c .before .before .before .follow-edge .ensures ns in
     record {
@@ -70,6 +100,15 @@ pub turn-spec : {M : Type 1} → statement M
 turn-spec =
     tie.close
     (tie.spec
+    sub-edges
+    part-edges-start
+    part-edges-end
+    sub-heads
+    part-heads-start
+    part-heads-end
+    sub-acts
+    part-acts-start
+    part-acts-end
     follow-edge-requires
     enum-known-f
     node-at-requires

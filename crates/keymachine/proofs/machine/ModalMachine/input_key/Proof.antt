@@ -10,16 +10,16 @@ use Rattle.keymachine.proofs.machine.ModalMachine.input_key.Tie as tie
 sized : (c : tie.After-trail) → (length (c .before .before .before .args .t1 .graph .words) ≡ 4128) × ((length (c .before .before .before .args .t1 .queue) ≡ 256) × (length (c .before .before .before .args .t1 .sequences) ≡ 520) × (length (c .before .before .before .args .t1 .trail) ≡ 64))
 sized c = (search needs, (search needs, search needs, search needs))
 
-input-on-requires : tie.Need-input-on-requires
-input-on-requires c κs = sized (c .before .before .before .before .before .before .before .before .before .before .before .before .before .before .before)
+input-key-requires : tie.Need-input-key-requires
+input-key-requires c κs = sized (c .before .before .before .before .before .before .before .before .before .before .before .before .before .before)
 
 returns : tie.Need-returns
-returns c = let a = c .before .before .before .before .before .before .before .before .before .before .before .before .before .before .before .before .before .before .before .before .before .args in let r = c .before .before .input-on in
+returns c = let a = c .before .before .before .before .before .before .before .before .before .before .before .before .before .before .before .before .before .before .before .before .args in let r = c .before .before .input-key in
     press-refused (machineOf (a .t1)) (record { key = a .key; budget = a .budget }) (r .result .rounds) (r .result .refusal) _ (r .ensures .1) (c .if1 .taken)
 
 returns-2 : tie.Need-returns-2
-returns-2 c = let a = c .before .before .before .before .before .before .before .before .before .before .before .before .before .before .before .before .before .before .before .before .before .before .args in let r = c .before .before .before .input-on in
+returns-2 c = let a = c .before .before .before .before .before .before .before .before .before .before .before .before .before .before .before .before .before .before .before .before .before .args in let r = c .before .before .before .input-key in
     press-done (machineOf (a .t1)) (record { key = a .key; budget = a .budget }) (r .result .rounds) (r .result .refusal) _ (r .ensures .1) (c .before .if1 .left)
 
 pub input-key-spec : {M : Type 1} → statement M
-input-key-spec = tie.close (tie.spec input-on-requires returns returns-2)
+input-key-spec = tie.close (tie.spec input-key-requires returns returns-2)
