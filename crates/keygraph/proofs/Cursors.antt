@@ -1,20 +1,18 @@
 -- Cursors: what one call comes to, in the words of the rules, and the loops of repeats.
-use Prim.Native.Nat.{ℕ, zero, suc, _<_, _≤_, min}
+use Prim.Native.Nat.{ℕ, zero, suc, _<_, min}
 use mathlib.Core.Path.{_≡_, refl, sym, ap, _∙_}
 use mathlib.Core.Bool.{Bool, true, false, _&&_}
-use mathlib.Core.List.{List, [], _∷_, _++_, map}
+use mathlib.Core.List.{List, [], _∷_, _++_, map, map-append}
 use native.Mathlib.Omega.{arith}
 use lib.Dec.{eqb}
-use lib.ListN.{length, take, getD, length-map, length-take}
+use lib.ListN.{length, take, getD}
 use lib.Seq.{take-suc}
 use borrow.Author.Tests.{ne-eqb}
 use mathlib.Core.Option.{Option, none, some}
 use Rattle.rules.specs.Basics.{if_then_else_, Result, accept, refuse, _>>=_}
 use Rattle.rules.specs.Values.{Event, Fallthrough, Min, Max, Part, Step}
 use Rattle.rules.specs.Graph.{Graph, Cursor, cursor, NodeAction, Empty, addNode, addEdge, upsertNode, upsertAt, getEdge, settle, edgeBetween, edgeTo, nodeFor, addSimpleStep, addSimples, addOptionals, addMin, addMax, addRepeat, addIntermediate, actionOf, mapPath, prefixLast, prefixPath}
-use Rattle.keygraph.specs.Making.{settledAt}
-use Rattle.keygraph.specs.Making.{Leads, Makes, resultOf, upserted, paid, addParts, minTo, minOn}
-use Rattle.keygraph.specs.Making.{outcome, cursorIn}
+use Rattle.keygraph.specs.Making.{Leads, Makes, resultOf, outcome, cursorIn, settledAt, upserted, paid, addParts, minTo, minOn}
 use Rattle.keygraph.specs.declared.cursor.Cursor as C
 use Rattle.keyparts.specs.View.{eventAt}
 use Rattle.keygraph.specs.View.{graphIn, resultBy, settled}
@@ -23,7 +21,6 @@ use Rattle.keygraph.specs.declared.graph.Answer.{Answer}
 use Rattle.keygraph.specs.declared.graph.Answer.the-variants.{Accepted, Refused}
 use Rattle.rules.specs.Calls as calls
 use Rattle.keyparts.proofs.Words.{event-fall, take-min}
-use Rattle.keyparts.proofs.Finds.{map-append}
 use Rattle.keygraph.proofs.Binds.{then as next, with, bind-assoc, leads-as}
 
 -- ---- one call: n is the refusal's number of the cursor, and a the cursor itself
@@ -150,11 +147,7 @@ simple-parts mode ev action c = first (upsertNode mode (c .prev) ev action (c .g
 -- ---- loops
 module _ {A B C : Type 0} where
   pub back : {x : Result A} {y : Result B} {f : A → Result B} (g : B → Result C) → Leads x f y → (y >>= g) ≡ x >>= (λ a. f a >>= g)
-  back {x} {y} {f} g h = ap (λ (r : Result B). r >>= g) (h .is) ∙ go x
-    where
-      go : (x : Result A) → ((x >>= f) >>= g) ≡ x >>= (λ a. f a >>= g)
-      go (accept a) = refl
-      go (refuse n) = refl
+  back {x} {y} {f} g h = ap (λ (r : Result B). r >>= g) (h .is) ∙ bind-assoc x f g
 
 pub same-result : {A : Type 0} (x : Result A) → (x >>= (λ a. accept a)) ≡ x
 same-result (accept a) = refl
@@ -240,9 +233,6 @@ view-last f m ys d n l e s =
     let h : l < length ys = omega arith in
     let k : min m (length ys) ≡ suc l = omega arith in
     ap (map f) (sym (take-min m (length ys) ys refl) ∙ ap (λ (i : ℕ). take i ys) k ∙ take-suc ys l d h) ∙ map-append f (take l ys) (getD ys l d ∷ [])
-
-pub view-count : {A B : Type 0} (f : A → B) (ys : List A) (l : ℕ) → l ≤ length ys → length (map f (take l ys)) ≡ l
-view-count f ys l h = omega (arith, length-map (take l ys) f, length-take l ys)
 
 module _ (mode : ℕ) where
   pub parts-more : {x y : Result Cursor} (p : Part) (ds es : List Part) → ds ≡ p ∷ es → Leads x (addIntermediate mode p) y → (y >>= addParts mode es) ≡ x >>= addParts mode ds

@@ -1,38 +1,18 @@
 -- Laws over plain lists: mapped views, counts above a capacity, blocks of words, and lists that are changed in part.
 use Prim.Native.Nat.{ℕ, zero, suc, _+_, _-_, _*_, _≤_, _<_, min}
 use mathlib.Core.Path.{_≡_, refl, sym, ap, _∙_}
-use mathlib.Core.List.{List, [], _∷_, _++_, map, append-assoc}
+use mathlib.Core.List.{List, [], _∷_, _++_, map, map-append, append-assoc}
 use native.Mathlib.Omega.{arith}
 use native.Mathlib.Numerals.{add-one}
-use lib.ListN.{length, take, drop, set, getD, length-take, length-drop, length-map, length-append, length-set}
+use lib.ListN.{length, take, drop, set, getD, length-take, length-drop, length-map, length-append}
 use lib.Seq.{drop-drop, getD-take, getD-drop, drop-cons, take-suc, take-nil, take-set-le, take-set-lt, drop-set-lt, drop-set-add, getD-at, set-at, take-at, drop-at, length-take-le, paste, paste-suc, take-add}
 use Rattle.keymachine.specs.Views.{outcome, blocks}
 use Rattle.rules.specs.Basics.{accept, refuse}
-
-pub map-append : {A B : Type 0} (f : A → B) (xs ys : List A) → map f (xs ++ ys) ≡ map f xs ++ map f ys
-map-append f [] ys = refl
-map-append f (x ∷ xs) ys = ap (λ (r : List _). f x ∷ r) (map-append f xs ys)
-
-pub map-set : {A B : Type 0} (f : A → B) (l : List A) (i : ℕ) (x : A) → map f (set l i x) ≡ set (map f l) i (f x)
-map-set f [] i x = refl
-map-set f (y ∷ l) zero x = refl
-map-set f (y ∷ l) (suc i) x = ap (λ (r : List _). f y ∷ r) (map-set f l i x)
-
-pub map-take : {A B : Type 0} (f : A → B) (n : ℕ) (l : List A) → map f (take n l) ≡ take n (map f l)
-map-take f zero l = refl
-map-take f (suc n) [] = refl
-map-take f (suc n) (x ∷ l) = ap (λ (r : List _). f x ∷ r) (map-take f n l)
-
-pub take-view : {A : Type 0} (n : ℕ) (l : List A) → take (length (take n l)) l ≡ take n l
-take-view zero l = refl
-take-view (suc n) [] = refl
-take-view (suc n) (x ∷ l) = ap (λ (r : List _). x ∷ r) (take-view n l)
+use Rattle.keyparts.proofs.Words.{take-min as take-capped}
 
 -- a count above the capacity means the whole array
 pub take-min : {A : Type 0} (m k : ℕ) (l : List A) (n : ℕ) → length l ≡ k → n ≡ min m k → take n l ≡ take m l
-take-min m k l n e q =
-    let h : n ≡ length (take m l) = omega (arith, length-take m l) in
-    rw h (take-view m l)
+take-min m k l n e q = rw q (take-capped m k l e)
 
 pub getD-mapped : {A B : Type 0} (f : A → B) (l : List A) (i : ℕ) (d : B) (z : A) → i < length l → getD (map f l) i d ≡ f (getD l i z)
 getD-mapped f [] i d z h = absurd (omega arith)
@@ -132,10 +112,6 @@ outcome-ok (suc n) a e = absurd (omega arith)
 pub outcome-no : {A : Type 0} (n : ℕ) (a : A) → (n ≡ 0 → ⊥) → outcome n a ≡ refuse n
 outcome-no zero a e = absurd (e refl)
 outcome-no (suc n) a e = refl
-
--- the length of an array of structs, from that of its view
-pub length-mapped : (X Y : Type 0) (f : X → Y) (l : List X) (n : ℕ) → length (map f l) ≡ n → length l ≡ n
-length-mapped X Y f l n p = sym (length-map l f) ∙ p
 
 -- the length of a list of which a part was lent and came back
 pub part-long : (ws new : List ℕ) (at k : ℕ) → at + k ≤ length ws → length new ≡ k → length (take at ws ++ (new ++ drop k (drop at ws))) ≡ length ws

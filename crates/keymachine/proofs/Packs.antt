@@ -1,30 +1,28 @@
 -- Tables that a caller hands over: their words, their ranges, and the loops that test an entry and pack it.
-use Prim.Native.Nat.{ℕ, zero, suc, _+_, _-_, _*_, _/_, _%_, _≤_, _<_}
-use mathlib.Core.Path.{_≡_, refl, sym, ap, _∙_}
-use mathlib.Core.Bool.{Bool, true, false, _&&_}
-use mathlib.Core.Option.{Option, none, some}
-use mathlib.Core.List.{List, [], _∷_, _++_, map}
+use Prim.Native.Nat.{ℕ, _+_, _-_, _*_, _/_, _%_, _≤_, _<_}
+use mathlib.Core.Path.{_≡_, refl, ap, _∙_}
+use mathlib.Core.Bool.{Bool, true, false}
+use mathlib.Core.Option.{none}
+use mathlib.Core.List.{List, [], _∷_, map, map-append}
 use native.Mathlib.Omega.{arith}
 use native.Mathlib.Numerals.{add-one}
-use lib.ListN.{length, take, drop, set, getD, replicate, length-take, length-map, length-append, length-replicate, length-set, length-drop, drop-of-length-le}
-use lib.Seq.{drop-cons, take-suc, take-suc-set, take-append-le, take-all, getD-take, getD-set-same, set-set, length-take-le}
-use lib.Dec.{ltb, leb, eqb}
+use lib.ListN.{length, take, drop, set, getD, length-take, length-map, length-drop, drop-of-length-le}
+use lib.Seq.{drop-cons, take-suc, take-suc-set, take-all, getD-take, getD-set-same, set-set}
+use lib.Dec.{leb}
 use borrow.Author.Tests.{ltb-true, leb-true, le-leb, lt-leb}
-use Rattle.rules.specs.Basics.{every, present}
-use Rattle.rules.specs.Values.{isMode, isSequence, isStatus}
-use Rattle.rules.specs.Tables.{ClassEntry, ModeEntry, Rule, Tables, classValid, modeValid, ruleValid, tablesValid, noEntry}
-use Rattle.keyparts.specs.View.{fourOf, optOf, maybeOf, fit, classesOf, classAt}
+use Rattle.rules.specs.Basics.{every}
+use Rattle.rules.specs.Values.{isMode, isSequence}
+use Rattle.rules.specs.Tables.{ModeEntry, Rule, Tables, classValid, modeValid, ruleValid, tablesValid, noEntry}
+use Rattle.rules.proofs.Tests.{and-l, and-r}
+use Rattle.keyparts.specs.View.{fourOf, optOf, maybeOf, fit, classesOf}
+use Rattle.keyparts.proofs.Ranges.{take-map, fit-take, fit-length}
 use Rattle.keymachine.specs.declared.tables.ModeEntry as entry
 use Rattle.keymachine.specs.declared.tables.Tables as declared
 use Rattle.keymachine.specs.declared.rule.Rule as rule
 use Rattle.keymachine.specs.Views.{blocks, ruleOf, rulesOf, ruleBy, classBy, entryOf, modesOf, wholeActions, wholeEntry, wholeTables, tables, noClass, noRule}
-use Rattle.keymachine.proofs.Lists.{map-append, map-take, getD-mapped, length-blocks, getD-blocks, blocks-set}
+use Rattle.keymachine.proofs.Lists.{getD-mapped, length-blocks, getD-blocks, blocks-set}
 
 -- ---- words
-
-pub opt-is : (n : ℕ) → n < 65536 → optOf (n + 1) ≡ some n
-unfolding optOf
-opt-is n h = let e : n % 65536 ≡ n = omega arith in rw (add-one n, e)
 
 pub opt-zero : optOf 0 ≡ none
 unfolding optOf
@@ -47,39 +45,22 @@ rule-is m s t l h hm hs ht hl hh =
 
 -- ---- ranges
 
-and-left : (a b : Bool) → a && b ≡ true → a ≡ true
-and-left true b h = refl
-and-left false b h = h
-
-and-right : (a b : Bool) → a && b ≡ true → b ≡ true
-and-right true b h = h
-and-right false true h = refl
-and-right false false h = h
-
 -- a test that failed did not hold
 pub never : {A : Type 0} (b : Bool) → b ≡ false → b ≡ true → A
 never b f h = let z : _≡_ {A = ℕ} 0 1 = cc in absurd (omega arith)
 
-pub fit-length : {A : Type 0} (d : A) (n : ℕ) (xs : List A) → length (fit d n xs) ≡ n
-unfolding fit
-fit-length d n xs = omega (arith, length-take n (xs ++ replicate n d), length-append xs (replicate n d), length-replicate n d)
-
-pub fit-take : {A : Type 0} (d : A) (n : ℕ) (xs : List A) → n ≤ length xs → fit d n xs ≡ take n xs
-unfolding fit
-fit-take d n xs h = take-append-le n xs (replicate n d) h
-
 pub rule-ranges : (r : rule.Rule) → ruleValid (ruleBy r) ≡ true → (r .mode < 16) × (r .sequence < 8) × (r .status < 5)
 unfolding ruleValid
 rule-ranges r h =
-    let a = and-right (isMode (r .mode)) _ h in
-    let b = and-right (leb (r .low) (r .high)) _ a in
-    (ltb-true (r .mode) 16 (and-left (isMode (r .mode)) _ h), ltb-true (r .sequence) 8 (and-left (isSequence (r .sequence)) _ b), ltb-true (r .status) 5 (and-right (isSequence (r .sequence)) _ b))
+    let a = and-r (isMode (r .mode)) _ h in
+    let b = and-r (leb (r .low) (r .high)) _ a in
+    (ltb-true (r .mode) 16 (and-l (isMode (r .mode)) _ h), ltb-true (r .sequence) 8 (and-l (isSequence (r .sequence)) _ b), ltb-true (r .status) 5 (and-r (isSequence (r .sequence)) _ b))
 
 pub entry-ranges : (e : entry.ModeEntry) → modeValid (wholeEntry e) ≡ true → (e .enter .count ≤ 4) × (e .unmapped .count ≤ 4)
 unfolding modeValid wholeEntry
 entry-ranges e h =
-    let a = leb-true (length (wholeActions (e .enter))) 4 (and-left (leb (length (wholeActions (e .enter))) 4) _ h) in
-    let b = leb-true (length (wholeActions (e .unmapped))) 4 (and-left (leb (length (wholeActions (e .unmapped))) 4) _ (and-right (leb (length (wholeActions (e .enter))) 4) _ h)) in
+    let a = leb-true (length (wholeActions (e .enter))) 4 (and-l (leb (length (wholeActions (e .enter))) 4) _ h) in
+    let b = leb-true (length (wholeActions (e .unmapped))) 4 (and-l (leb (length (wholeActions (e .unmapped))) 4) _ (and-r (leb (length (wholeActions (e .enter))) 4) _ h)) in
     (omega (arith, fit-length 0 (e .enter .count) (e .enter .items)), omega (arith, fit-length 0 (e .unmapped .count) (e .unmapped .items)))
 
 pub entry-is : (e : entry.ModeEntry) (a u p : ℕ) → modeValid (wholeEntry e) ≡ true → length (e .enter .items) ≡ 4 → length (e .unmapped .items) ≡ 4
@@ -126,9 +107,6 @@ module _ {A C : Type 0} (g : A → C) (xs : List A) (count i : ℕ) (d : C) (z :
   view-at =
       getD-mapped g (take count xs) i d z (omega (arith, length-take count xs)) ∙ ap g (getD-take count xs i z h)
 
-pub view-long : {A C : Type 0} (g : A → C) (xs : List A) (count : ℕ) → count ≤ length xs → length (map g (take count xs)) ≡ count
-view-long g xs count k = length-map (take count xs) g ∙ length-take-le count xs k
-
 -- the three words of a mode
 pub three-words : (ws : List ℕ) (i a u h : ℕ) → length ws ≡ 48 → i < 16
     → blocks 3 16 (set (set (set ws (i * 3) a) (i * 3 + 1) u) (i * 3 + 2) h) ≡ set (blocks 3 16 ws) i (a ∷ u ∷ h ∷ [])
@@ -164,7 +142,7 @@ three-words ws i a u h e k =
 within : {A C : Type 0} (g : A → C) (d : C) (n : ℕ) (xs : List A) (k : ℕ) → length xs ≡ k → n ≤ k → fit d n (map g xs) ≡ map g (take n xs)
 within g d n xs k e h =
     let l : n ≤ length (map g xs) = omega (arith, length-map xs g) in
-    fit-take d n (map g xs) l ∙ sym (map-take g n xs)
+    fit-take d n (map g xs) l ∙ take-map g n xs
 
 module _ (x : declared.Tables) (lc : length (x .classes) ≡ 16) (lm : length (x .modes) ≡ 16) (lr : length (x .rules) ≡ 64) where
   count-of : {A : Type 0} (d : A) (n k : ℕ) (xs : List A) → n ≤ k → leb (length (fit d n xs)) k ≡ true

@@ -2,7 +2,7 @@
 use Prim.Native.Nat.{ℕ, zero, suc, _+_, _-_, _*_, _/_, _≤_, _<_, min}
 use mathlib.Core.Path.{_≡_, refl, sym, ap, _∙_}
 use mathlib.Core.Option.{Option}
-use mathlib.Core.List.{List, [], _∷_, _++_, map}
+use mathlib.Core.List.{List, [], _∷_, _++_, map, map-append}
 use native.Mathlib.Omega.{arith}
 use lib.ListN.{length, take, drop, set, getD, length-take, length-map, length-drop, length-append}
 use lib.Seq.{take-append-le, paste, length-paste, take-paste, drop-paste, take-take, take-add, take-at, drop-at, drop-drop, length-take-le, getD-set-same}
@@ -12,7 +12,7 @@ use Rattle.rules.specs.Values.{Context, Pair}
 use Rattle.rules.specs.KeyLoop.{Tracker, noTracker, override, fetch, withQueue, withSequences, repeatSequence}
 use Rattle.rules.specs.Calls.{Machine, withShared, settled, repeat-call, call, Repeats, graphKind, Accepted, Refused}
 use Rattle.keymachine.specs.Views.{pairOf, pairsOf, trackerOf, trackersOf, blocks}
-use Rattle.keymachine.proofs.Lists.{map-append, drop-take, take-min, length-blocks}
+use Rattle.keymachine.proofs.Lists.{drop-take, take-min, length-blocks}
 use Rattle.keymachine.proofs.Sequences.{block, block-long, tracker-at, trackers-back, length-pairs, count-is}
 
 -- the words of a block's pairs

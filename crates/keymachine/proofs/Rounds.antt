@@ -1,15 +1,12 @@
--- What one round comes to: arriving, landing, and the turn of the graph navigator.
+-- What one round comes to: arriving, landing, and the turn by what following gave.
 use Prim.Native.Nat.{ℕ}
-use mathlib.Core.Path.{_≡_, refl, sym, ap, _∙_}
-use mathlib.Core.Bool.{Bool, true, false}
-use mathlib.Core.Option.{Option, none, some}
-use mathlib.Core.List.{List}
-use Rattle.rules.specs.Basics.{if_then_else_}
+use mathlib.Core.Path.{_≡_, refl}
+use mathlib.Core.Bool.{true, false}
+use mathlib.Core.Option.{none, some}
 use Rattle.rules.specs.Values.{Event, Step, Context, hook}
-use Rattle.rules.specs.Tables.{Tables, ClassEntry}
-use Rattle.rules.specs.KeyLoop.{Shared, State, at, Turn, withContext, runHook, InputResult, NeedMore, Consumed, Unmapped, RunStep, Again, ClearTrail, RetryAfter}
-use Rattle.rules.specs.Graph.{Graph, Node, NodeAction, Empty, Root, Holds, Follow, Successor, FallsTo, NoSuccessor, followEdge, getNode, hasEdges}
-use Rattle.rules.specs.Calls.{graphNavigator, turnBy, arrive, land}
+use Rattle.rules.specs.KeyLoop.{Shared, at, withContext, runHook, InputResult, NeedMore, Consumed, Unmapped, RunStep, Again, ClearTrail, RetryAfter}
+use Rattle.rules.specs.Graph.{Graph, Node, NodeAction, Empty, Root, Holds, Follow, Successor, FallsTo, NoSuccessor, getNode, hasEdges}
+use Rattle.rules.specs.Calls.{turnBy, arrive, land}
 
 pub arrive-place : (g : Graph) (n : ℕ) (ev : Event) (a : NodeAction) → arrive g n ev a .place ≡ n
 unfolding arrive
@@ -99,7 +96,3 @@ module _ (g : Graph) (n : ℕ) (f : Follow) where
     pub stuck-state : (k : ℕ) (c : Shared) → at n c ≡ at (turnBy g n f .place) (runHook (turnBy g n f .event) k c)
     unfolding turnBy runHook
     stuck-state k c = rw (← e)
-
-pub nav-turn : (g : Graph) (cs : List ClassEntry) (n k : ℕ) → turnBy g n (followEdge cs g n k) ≡ graphNavigator g .turn cs n k
-unfolding graphNavigator
-nav-turn g cs n k = refl

@@ -3,7 +3,7 @@ use Prim.Native.Nat.{ℕ, zero, suc, _+_, _-_, _*_, _/_, _%_, _≤_, _<_, min}
 use mathlib.Core.Path.{_≡_, refl, sym, ap, _∙_}
 use mathlib.Core.Bool.{Bool, true, false, _&&_}
 use mathlib.Core.Option.{Option}
-use mathlib.Core.List.{List, [], _∷_, _++_, map, append-nil}
+use mathlib.Core.List.{List, [], _∷_, _++_, map, map-append, append-nil}
 use native.Mathlib.Omega.{arith}
 use native.Mathlib.Numerals.{add-one}
 use lib.ListN.{length, take, drop, set, getD, length-take, length-drop, length-map, drop-of-length-le, List·getD-map}
@@ -16,8 +16,9 @@ use Rattle.rules.specs.Tables.{Track, Rule, Status, matches, statusOf}
 use Rattle.rules.specs.Tables as t
 use Rattle.rules.specs.Calls as c
 use Rattle.rules.specs.KeyLoop.{Tracker, tracker, noTracker, track, override, fetch, applyRule, applyRules}
+use Rattle.keyparts.proofs.Finds.{map-set}
 use Rattle.keymachine.specs.Views.{outcome, pairOf, pairsOf, trackerOf, trackersOf, blocks, ruleOf, rulesOf, broke, settledBy}
-use Rattle.keymachine.proofs.Lists.{map-append, map-set, map-more, map-at, map-long, length-blocks, getD-blocks, getD-mapped, blocks-part}
+use Rattle.keymachine.proofs.Lists.{map-more, map-at, map-long, length-blocks, getD-blocks, getD-mapped, blocks-part}
 
 pub packed : (a c m : ℕ) → a < 65536 → c < 65536 → m < 65536 → pairOf (a + c * 65536 + m * 4294967296) ≡ pair a c m
 unfolding pairOf

@@ -2,7 +2,7 @@
 use Prim.Native.Nat.{ℕ, zero, suc, _+_, _*_, _%_, _<_, _≤_, min, zero-le}
 use mathlib.Core.Path.{_≡_, refl, sym, ap, _∙_}
 use mathlib.Core.Bool.{Bool, true, false}
-use mathlib.Core.List.{List, [], _∷_, _++_, map}
+use mathlib.Core.List.{List, [], _∷_, _++_, map, map-append}
 use mathlib.Core.Option.{Option, none, some}
 use native.Mathlib.Omega.{arith}
 use native.Mathlib.Numerals.{add-one}
@@ -15,10 +15,6 @@ use Rattle.rules.specs.Tables.{ClassEntry, memberships, holdsKey}
 use Rattle.rules.specs.Graph.{isEdge, Edge, endIn, replaceIn, putEdge, addEdge, getEdge, Node, followFirst, orElseBy, lastly, classEvents, Successor, FallsTo, NoSuccessor}
 use Rattle.keyparts.specs.View.{eventAt, edgeOf, keyIs, find, edgesOf, memberEnd, followMembers, classAt}
 use Rattle.keyparts.proofs.Words.{edge-key, edge-word}
-
-pub map-append : {A B : Type 0} (f : A → B) (xs ys : List A) → map f (xs ++ ys) ≡ map f xs ++ map f ys
-map-append f [] ys = refl
-map-append f (x ∷ xs) ys = ap (λ (r : List _). f x ∷ r) (map-append f xs ys)
 
 pub map-set : {A B : Type 0} (f : A → B) (l : List A) (i : ℕ) (a : A) → map f (set l i a) ≡ set (map f l) i (f a)
 map-set f [] i a = refl

@@ -16,7 +16,8 @@ use Rattle.rules.specs.Values.{Event}
 use Rattle.rules.specs.Tables.{ClassEntry}
 use Rattle.rules.specs.Graph.{isEdge, endIn, getEdge, followFirst, followEdge, eventsOf, orElseBy, lastly, Node}
 use Rattle.keyparts.specs.View.{eventAt, codeOf, edgeOf, graphBy, keyIs, reached, chainOf, endOn, linkedEnd, followLinks}
-use Rattle.keyparts.proofs.Words.{code-event, same-eq, and-left, and-right, edge-key}
+use Rattle.rules.proofs.Tests.{and-l, and-r, event-is}
+use Rattle.keyparts.proofs.Words.{code-event, edge-key}
 
 -- ---- the words that are reached
 
@@ -46,8 +47,8 @@ chain-below key = omega arith
 on-chain : (n : ℕ) (ev : Event) (w : ℕ) → isEdge n ev (edgeOf w) ≡ true → n + codeOf ev * 65536 ≡ w / 65536
 unfolding isEdge edgeOf
 on-chain n ev w h =
-    let a = eqb-true (w / 65536 % 65536) n (and-left _ _ h) in
-    let e = same-eq (eventAt (w / 65536 / 65536)) ev (and-right (eqb (w / 65536 % 65536) n) _ h) in
+    let a = eqb-true (w / 65536 % 65536) n (and-l _ _ h) in
+    let e = event-is (eventAt (w / 65536 / 65536)) ev (and-r (eqb (w / 65536 % 65536) n) _ h) in
     let c : codeOf ev ≡ w / 65536 / 65536 = ap codeOf (sym e) ∙ code-event (w / 65536 / 65536) in
     omega arith
 

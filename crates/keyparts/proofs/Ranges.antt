@@ -12,6 +12,7 @@ use mathlib.Core.Option.{Option, none, some}
 use Rattle.rules.specs.Values as v
 use Rattle.rules.specs.Graph.{Graph, addMapping, addPrefix}
 use Rattle.rules.specs.Basics.{every, present, Result, refuse, unless}
+use Rattle.rules.proofs.Tests.{and-l}
 use Rattle.rules.specs.Values.{partValid, pathValid, stepValid, isMode, isMark, mapValid, prefixValid, Step}
 use Rattle.keyparts.specs.declared.path.EdgePathPart.{EdgePathPart as Part}
 use Rattle.keyparts.specs.declared.event.EdgeRepeat.the-variants.{Once}
@@ -19,10 +20,13 @@ use Rattle.keyparts.specs.declared.event.EdgeEvent.the-variants.{Key}
 use Rattle.keyparts.specs.declared.path.EdgePath.{EdgePath as Path}
 use Rattle.keyparts.specs.declared.step.Step as st
 use Rattle.keyparts.specs.View.{fit, noPart, partOf, pathOf, stepOf, wholePath, wholeStep, maybeOf, chosenOf, stepsValid}
-use Rattle.keyparts.proofs.Words.{and-left}
 
+-- the length of an array of structs, from that of its view
 pub length-mapped : (X Y : Type 0) (f : X → Y) (l : List X) (n : ℕ) → length (map f l) ≡ n → length l ≡ n
 length-mapped X Y f l n p = sym (length-map l f) ∙ p
+
+pub view-count : {A B : Type 0} (f : A → B) (l : List A) (n : ℕ) → n ≤ length l → length (map f (take n l)) ≡ n
+view-count f l n h = omega (arith, length-map (take n l) f, length-take n l)
 
 pub take-map : {A B : Type 0} (f : A → B) (n : ℕ) (l : List A) → take n (map f l) ≡ map f (take n l)
 take-map f zero l = refl
@@ -64,7 +68,7 @@ module _ (p : Path) (e : length (p .parts) ≡ 32) where
   pub path-valid : true ≡ pathValid (wholePath p) → wholePath p ≡ pathOf p
   unfolding pathValid
   path-valid h =
-      let k = leb-true (length (wholePath p)) 32 (and-left (leb (length (wholePath p)) 32) (every partValid (wholePath p)) (sym h)) in
+      let k = leb-true (length (wholePath p)) 32 (and-l (leb (length (wholePath p)) 32) (every partValid (wholePath p)) (sym h)) in
       path-same (omega (arith, fit-length noPart (p .count) (map partOf (p .parts))))
 
 -- ---- steps
@@ -89,7 +93,7 @@ module _ (s : st.Step) (e : length (s .actions) ≡ 4) where
   pub step-valid : true ≡ stepValid (wholeStep s) → wholeStep s ≡ stepOf s
   unfolding stepValid
   step-valid h =
-      let k = leb-true (length (fit 0 (s .count) (s .actions))) 4 (and-left (leb (length (fit 0 (s .count) (s .actions))) 4) (present isMode (maybeOf (s .next)) && (present isMode (maybeOf (s .fallthrough)) && present isMark (maybeOf (s .mark)))) (sym h)) in
+      let k = leb-true (length (fit 0 (s .count) (s .actions))) 4 (and-l (leb (length (fit 0 (s .count) (s .actions))) 4) (present isMode (maybeOf (s .next)) && (present isMode (maybeOf (s .fallthrough)) && present isMark (maybeOf (s .mark)))) (sym h)) in
       step-same (omega (arith, fit-length 0 (s .count) (s .actions)))
 
 -- ---- the two calls: r is what the work came to, and x the graph before

@@ -12,6 +12,7 @@ use lib.Seq.{take-all}
 use Rattle.rules.specs.Basics.{if_then_else_}
 use Rattle.rules.specs.Values.{Event, Key, Class, Any, Fallthrough, sameEvent, Step}
 use Rattle.rules.specs.Graph.{isEdge, Empty, Holds}
+use Rattle.rules.proofs.Tests.{and-l, and-r, both-ways, event-is, event-same}
 use native.Mathlib.Numerals.{add-one}
 use Rattle.keyparts.specs.View.{codeOf, eventAt, edgeOf, keyIs, optOf, fourOf, stepAt, actionAt, nodeAt, classAt}
 
@@ -49,65 +50,21 @@ pub event-fall : eventAt 131073 ≡ Fallthrough
 unfolding eventAt
 event-fall = refl
 
-eqb-same : (n : ℕ) → eqb n n ≡ true
-eqb-same n = eq-eqb n n refl
-
-same-refl : (e : Event) → sameEvent e e ≡ true
-unfolding sameEvent
-same-refl (Key a) = eqb-same a
-same-refl (Class a) = eqb-same a
-same-refl Any = refl
-same-refl Fallthrough = refl
-
-pub same-eq : (a b : Event) → sameEvent a b ≡ true → a ≡ b
-unfolding sameEvent
-same-eq (Key a) (Key b) h = ap Key (eqb-true a b h)
-same-eq (Key a) (Class b) h = cc
-same-eq (Key a) Any h = cc
-same-eq (Key a) Fallthrough h = cc
-same-eq (Class a) (Key b) h = cc
-same-eq (Class a) (Class b) h = ap Class (eqb-true a b h)
-same-eq (Class a) Any h = cc
-same-eq (Class a) Fallthrough h = cc
-same-eq Any (Key b) h = cc
-same-eq Any (Class b) h = cc
-same-eq Any Any h = refl
-same-eq Any Fallthrough h = cc
-same-eq Fallthrough (Key b) h = cc
-same-eq Fallthrough (Class b) h = cc
-same-eq Fallthrough Any h = cc
-same-eq Fallthrough Fallthrough h = refl
-
--- two bools that hold together are the same
-pub agree : (p q : Bool) → (p ≡ true → q ≡ true) → (q ≡ true → p ≡ true) → p ≡ q
-agree true true f g = refl
-agree true false f g = sym (f refl)
-agree false true f g = g refl
-agree false false f g = refl
-
-pub and-left : (p q : Bool) → (p && q) ≡ true → p ≡ true
-and-left true q h = refl
-and-left false q h = h
-
-pub and-right : (p q : Bool) → (p && q) ≡ true → q ≡ true
-and-right true q h = h
-and-right false q h = cc
-
 pub same-code : (a b : ℕ) → sameEvent (eventAt a) (eventAt b) ≡ eqb a b
 same-code a b =
-    agree _ _
-    (λ h. eq-eqb a b (sym (code-event a) ∙ ap codeOf (same-eq (eventAt a) (eventAt b) h) ∙ code-event b))
-    (λ h. let e = eqb-true a b h in rw e (same-refl (eventAt b)))
+    both-ways _ _
+    (λ h. eq-eqb a b (sym (code-event a) ∙ ap codeOf (event-is (eventAt a) (eventAt b) h) ∙ code-event b))
+    (λ h. let e = eqb-true a b h in rw e (event-same (eventAt b)))
 
 -- ---- edges: the test on records is one test of the word
 pub edge-key : (n code w : ℕ) → n < 65536 → isEdge n (eventAt code) (edgeOf w) ≡ keyIs (n + code * 65536) w
 unfolding isEdge edgeOf keyIs
-edge-key n code w h = rw same-code (agree _ _ there back)
+edge-key n code w h = rw same-code (both-ways _ _ there back)
   where
     there : (eqb (w / 65536 % 65536) n && eqb (w / 65536 / 65536) code) ≡ true → eqb (w / 65536) (n + code * 65536) ≡ true
     there t =
-        let a = eqb-true (w / 65536 % 65536) n (and-left _ (eqb (w / 65536 / 65536) code) t) in
-        let b = eqb-true (w / 65536 / 65536) code (and-right (eqb (w / 65536 % 65536) n) _ t) in
+        let a = eqb-true (w / 65536 % 65536) n (and-l _ (eqb (w / 65536 / 65536) code) t) in
+        let b = eqb-true (w / 65536 / 65536) code (and-r (eqb (w / 65536 % 65536) n) _ t) in
         eq-eqb (w / 65536) (n + code * 65536) (omega arith)
 
     back : eqb (w / 65536) (n + code * 65536) ≡ true → (eqb (w / 65536 % 65536) n && eqb (w / 65536 / 65536) code) ≡ true

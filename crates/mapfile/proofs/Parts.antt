@@ -4,15 +4,16 @@ use Prim.Native.Nat.{ℕ, zero, suc, _+_, _-_, _≤_, _<_}
 use native.Mathlib.Omega.{arith}
 use native.Mathlib.Numerals.{add-one, sub-one}
 use mathlib.Core.Path.{_≡_, refl, sym, ap, _∙_, subst}
-use mathlib.Core.Option.{Option, none, some}
+use mathlib.Core.Option.{none, some}
 use mathlib.Core.List.{List, [], _∷_, _++_, map, map-append}
-use lib.ListN.{length, take, drop, set, replicate}
-use lib.Seq.{take-append-le, take-suc-set}
+use lib.ListN.{length, take, set, length-map}
+use lib.Seq.{take-suc-set}
 use Rattle.rules.specs.Basics.{Result}
-use Rattle.rules.specs.Values.{Event, Key, Class, Any, Fallthrough, Repeat, Once, Min, Max, isRepeat, isClass}
+use Rattle.rules.specs.Values.{Key, Class, Any, Fallthrough, Once, Min, Max, isRepeat, isClass}
 use Rattle.rules.specs.Numbers.{number}
-use Rattle.rules.specs.MapFile.{Reader, give, such, upTo, times, optional, optionalMark, readOptionalMode, repeatBy, eventBy}
+use Rattle.rules.specs.MapFile.{Reader, give, such, upTo, optional, optionalMark, readOptionalMode, repeatBy, eventBy}
 use Rattle.keyparts.specs.View.{fit}
+use Rattle.keyparts.proofs.Ranges.{take-map, fit-take}
 use Rattle.mapfile.specs.View.{Reads, readMark, readRepeat, readEvent}
 use Rattle.mapfile.proofs.Reading.{then, gives, gives-as, Left, left-more}
 
@@ -89,25 +90,12 @@ module _ (x y : Result (List ℕ)) (v : ℕ) where
 
 -- ---- lists in arrays
 
-pub fit-take : {A : Type 0} (d : A) (n : ℕ) (xs : List A) → n ≤ length xs → fit d n xs ≡ take n xs
-unfolding fit
-fit-take d n xs h = take-append-le n xs (replicate n d) h
-
 -- a loop that stored n values stored the list
 pub whole : (i n : ℕ) (xs : List ℕ) → i ≤ n → n ≤ i → n ≤ length xs → take i xs ≡ fit 0 n xs
 whole i n xs h k l = let e : i ≡ n = omega arith in ap (λ k. take k xs) e ∙ sym (fit-take 0 n xs l)
 
-take-map : {A B : Type 0} (f : A → B) (n : ℕ) (xs : List A) → take n (map f xs) ≡ map f (take n xs)
-take-map f zero xs = refl
-take-map f (suc n) [] = refl
-take-map f (suc n) (x ∷ xs) = ap (λ l. f x ∷ l) (take-map f n xs)
-
-length-map : {A B : Type 0} (f : A → B) (xs : List A) → length (map f xs) ≡ length xs
-length-map f [] = refl
-length-map f (x ∷ xs) = ap suc (length-map f xs)
-
 pub fit-map : {A B : Type 0} (f : A → B) (d : B) (n : ℕ) (xs : List A) → n ≤ length xs → fit d n (map f xs) ≡ map f (take n xs)
-fit-map f d n xs h = fit-take d n (map f xs) (rw (length-map f xs) h) ∙ take-map f n xs
+fit-map f d n xs h = fit-take d n (map f xs) (rw (length-map xs f) h) ∙ take-map f n xs
 
 pub whole-map : {A B : Type 0} (f : A → B) (d : B) (i n : ℕ) (xs : List A) → i ≤ n → n ≤ i → n ≤ length xs → map f (take i xs) ≡ fit d n (map f xs)
 whole-map f d i n xs h k l = let e : i ≡ n = omega arith in ap (λ k. map f (take k xs)) e ∙ sym (fit-map f d n xs l)

@@ -2,18 +2,20 @@
 use Prim.Native.Nat.{ℕ, zero, suc, _+_, _-_, _*_, _/_, _%_, _≤_, _<_}
 use native.Mathlib.Omega.{arith}
 use native.Mathlib.Nat.{mod-eq-of-lt}
-use mathlib.Core.Path.{_≡_, refl, sym, ap, _∙_, subst}
-use mathlib.Core.Option.{Option, none, some}
-use mathlib.Core.List.{List, [], _∷_, _++_, map}
-use lib.ListN.{length, take, drop, getD, set}
+use mathlib.Core.Path.{_≡_, refl, sym, ap, subst}
+use mathlib.Core.Option.{some}
+use mathlib.Core.List.{List, [], _∷_, map}
+use lib.ListN.{length, take, set}
 use Rattle.rules.specs.Basics.{Result}
-use Rattle.rules.specs.Tables.{ModeEntry, Rule}
+use Rattle.rules.specs.Tables.{ModeEntry}
 use Rattle.rules.specs.MapFile.{Reader, give, upTo, optional, readOptionalMode}
 use Rattle.keyparts.specs.View.{fit, fourOf, optOf}
+use Rattle.keyparts.proofs.Ranges.{fit-take}
 use Rattle.keymachine.specs.Views.{ruleOf, entryOf, blocks}
+use Rattle.keymachine.proofs.Lists.{length-blocks}
 use Rattle.mapfile.specs.View.{Reads}
 use Rattle.mapfile.proofs.Reading.{Left, then, gives}
-use Rattle.mapfile.proofs.Parts.{fit-take, stored}
+use Rattle.mapfile.proofs.Parts.{stored}
 
 -- ---- words
 
@@ -59,11 +61,6 @@ module _ (e u n m v : ℕ) (xs ys : List ℕ) (he : fourOf e ≡ xs) (hu : fourO
       rw (← he, ← hu, a, b, c, opt-optional v hv, p, q)
 
 -- ---- rows of three
-
-pub length-blocks : (k n : ℕ) (ws : List ℕ) → length (blocks k n ws) ≡ n
-unfolding blocks
-length-blocks k zero ws = refl
-length-blocks k (suc n) ws = ap suc (length-blocks k n (drop k ws))
 
 abbrev set3 : List ℕ → ℕ → ℕ → ℕ → ℕ → List ℕ
 set3 ws k a b c = set (set (set ws k a) (k + 1) b) (k + 2) c

@@ -13,10 +13,6 @@ use Rattle.mapfile.specs.View.{laid, putAt, putOut}
 
 -- ---- a number's bytes
 
-pub bytes-one : (v : ℕ) → v < 128 → bytesOf v ≡ v ∷ []
-unfolding bytesOf
-bytes-one v h = rw (lt-ltb v 128 h)
-
 pub bytes-two : (v : ℕ) → 128 ≤ v → v < 16384 → bytesOf v ≡ (v % 128 + 128) ∷ v / 128 ∷ []
 unfolding bytesOf
 bytes-two v h k = rw (le-ltb v 128 h, lt-ltb v 16384 k)

@@ -1,5 +1,5 @@
 -- What the answers of the file's functions mean, in the values of the rules.
-use Prim.Native.Nat.{ℕ, zero, suc, _+_, _≤_}
+use Prim.Native.Nat.{ℕ, _+_, _≤_}
 use mathlib.Core.Path.{_≡_}
 use mathlib.Core.Bool.{Bool, true, false}
 use mathlib.Core.Option.{Option}
@@ -17,7 +17,7 @@ use Rattle.rules.specs.Graph.{Graph}
 use Rattle.rules.specs.KeyLoop.{State}
 use Rattle.rules.specs.Calls.{Machine, graphKind, fresh}
 use Rattle.keygraph.specs.View.{resultBy, graphIn}
-use Rattle.keymachine.specs.Views.{tablesOf}
+use Rattle.keymachine.specs.Views.{outcome, tablesOf}
 use Rattle.mapfile.specs.declared.cursor.Cursor.{Cursor}
 use Rattle.mapfile.specs.declared.bind.Bound.{Bound}
 use Rattle.mapfile.specs.declared.map.MapRead.{MapRead}
@@ -32,11 +32,6 @@ use Rattle.mapfile.specs.declared.write.Put.the-variants.{At, Full}
 abbrev pub readOf : List ℕ → Read → Result (ℕ × List ℕ)
 readOf s (Number value next) = accept (value, drop next s)
 readOf s Bad = refuse 9
-
--- a value with the number of a refusal, or 0
-abbrev pub outcome : {A : Type 0} → ℕ → A → Result A
-outcome zero a = accept a
-outcome (suc n) a = refuse (suc n)
 
 -- the bytes that are left, or the refusal
 unfoldable pub cursorOf : List ℕ → Cursor → Result (List ℕ)

@@ -127,7 +127,7 @@ read-written most n rest h l k = go (ltb n 128) refl (ltb n 16384) refl
 
 -- ---- whatever is read is what writing gives
 
-written-one : (b : ℕ) → b < 128 → bytesOf b ≡ b ∷ []
+pub written-one : (b : ℕ) → b < 128 → bytesOf b ≡ b ∷ []
 unfolding bytesOf
 written-one b h = rw (lt-ltb b 128 h)
 

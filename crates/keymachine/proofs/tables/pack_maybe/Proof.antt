@@ -1,7 +1,8 @@
 -- 0 stands for none, and one more than the number for the number.
 use mathlib.Core.Path.{_≡_, refl, sym, ap, _∙_}
 use Rattle.keyparts.specs.View.{maybeOf}
-use Rattle.keymachine.proofs.Packs.{opt-is, opt-zero}
+use Rattle.keyparts.proofs.Words.{opt-just}
+use Rattle.keymachine.proofs.Packs.{opt-zero}
 use borrow.Author.Needs.{needs}
 use Rattle.keymachine.proofs.tables.pack_maybe.Statement.{statement}
 use Rattle.keymachine.proofs.tables.pack_maybe.Tie as tie
@@ -22,7 +23,7 @@ add-result : tie.Need-add-result
 add-result c = search needs
 
 returns-2 : tie.Need-returns-2
-returns-2 c = (opt-is (c .before .m .given .0 .0) (search needs) ∙ sym (ap maybeOf (c .before .m .given .1)), search needs)
+returns-2 c = (opt-just (c .before .m .given .0 .0) (search needs) ∙ sym (ap maybeOf (c .before .m .given .1)), search needs)
 
 pub pack-maybe-spec : {M : Type 1} → statement M
 pack-maybe-spec =

@@ -2,12 +2,13 @@
 use native.Mathlib.Omega.{arith}
 use mathlib.Core.Path.{sym, ap}
 use lib.ListN.{length}
-use Rattle.mapfile.proofs.Writing.{bytes-one, bytes-two, bytes-three}
+use Rattle.rules.proofs.Numbers.{written-one}
+use Rattle.mapfile.proofs.Writing.{bytes-two, bytes-three}
 use Rattle.mapfile.proofs.write.size_of.Statement.{statement}
 use Rattle.mapfile.proofs.write.size_of.Tie as tie
 
 returns : tie.Need-returns
-returns c = (sym (ap length (bytes-one _ (c .if1 .taken))), omega arith)
+returns c = (sym (ap length (written-one _ (c .if1 .taken))), omega arith)
 
 returns-2 : tie.Need-returns-2
 returns-2 c = (sym (ap length (bytes-two _ (c .before .if1 .left) (c .if2 .taken))), omega arith)

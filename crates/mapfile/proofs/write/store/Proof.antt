@@ -2,7 +2,8 @@
 use native.Mathlib.Omega.{arith}
 use mathlib.Core.Path.{ap}
 use lib.ListN.{length, length-set}
-use Rattle.mapfile.proofs.Writing.{bytes-one, bytes-two, bytes-three, store-one, store-two, store-three}
+use Rattle.rules.proofs.Numbers.{written-one}
+use Rattle.mapfile.proofs.Writing.{bytes-two, bytes-three, store-one, store-two, store-three}
 use borrow.Author.Needs.{needs}
 use Rattle.mapfile.proofs.write.store.Statement.{statement}
 use Rattle.mapfile.proofs.write.store.Tie as tie
@@ -11,13 +12,13 @@ cast-out : tie.Need-cast-out
 cast-out c = search needs
 
 slice-write-out : tie.Need-slice-write-out
-slice-write-out c = omega (arith, ap length (bytes-one _ (c .if1 .taken)))
+slice-write-out c = omega (arith, ap length (written-one _ (c .if1 .taken)))
 
 same-length : tie.Need-same-length
 same-length c = search needs
 
 returns : tie.Need-returns
-returns c = store-one (c .before .args .out .now) (c .before .args .at) (c .before .args .value) (c .before .pre) _ (bytes-one _ (c .if1 .taken))
+returns c = store-one (c .before .args .out .now) (c .before .args .at) (c .before .args .value) (c .before .pre) _ (written-one _ (c .if1 .taken))
 
 add-out : tie.Need-add-out
 add-out c = search needs

@@ -9,7 +9,8 @@ use Rattle.keyparts.proofs.Finds.{view-nil}
 use Rattle.keyparts.proofs.Ranges.{rawPart}
 use mathlib.Core.Bool.{true}
 use Rattle.keyparts.specs.View.{chosenOf}
-use Rattle.keygraph.proofs.Cursors.{prefix-whole, prefix-none, view-last, view-count}
+use Rattle.keyparts.proofs.Ranges.{view-count}
+use Rattle.keygraph.proofs.Cursors.{prefix-whole, prefix-none, view-last}
 use borrow.Author.Needs.{needs}
 use Rattle.keygraph.proofs.cursor.Cursor.prefix_path.Statement.{statement}
 use Rattle.keygraph.proofs.cursor.Cursor.prefix_path.Tie as tie

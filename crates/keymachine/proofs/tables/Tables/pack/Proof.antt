@@ -3,7 +3,7 @@ use mathlib.Core.Path.{_≡_, refl, sym, ap, _∙_}
 use mathlib.Core.Bool.{true, false}
 use lib.ListN.{length}
 use borrow.Author.Tests.{not-true, not-false}
-use Rattle.keymachine.proofs.Lists.{length-mapped}
+use Rattle.keyparts.proofs.Ranges.{length-mapped}
 use Rattle.keymachine.proofs.Packs.{never, over-classes, bad-classes, over-modes, bad-modes, over-rules, rules-too, all-words}
 use borrow.Author.Needs.{needs}
 use Rattle.keymachine.proofs.tables.Tables.pack.Statement.{statement}

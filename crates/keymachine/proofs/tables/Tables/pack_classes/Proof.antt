@@ -11,8 +11,8 @@ use Rattle.rules.specs.Basics.{every}
 use Rattle.rules.specs.Tables.{classValid}
 use Rattle.keyparts.specs.View.{classAt}
 use Rattle.keymachine.specs.Views.{classBy, ruleOf}
-use Rattle.keymachine.proofs.Lists.{length-mapped}
-use Rattle.keymachine.proofs.Packs.{never, every-on, every-stop, every-end, pack-on, pack-end, view-at, view-long}
+use Rattle.keyparts.proofs.Ranges.{length-mapped, view-count}
+use Rattle.keymachine.proofs.Packs.{never, every-on, every-stop, every-end, pack-on, pack-end, view-at}
 use Rattle.keymachine.proofs.tables.Tables.pack_classes.Statement.{statement}
 use Rattle.keymachine.proofs.tables.Tables.pack_classes.Tie as tie
 
@@ -58,7 +58,7 @@ loop-again : tie.Need-loop-again Inv-loop μ-loop
 loop-again c = let l = c .before .before .before .before .before .loop in let s = c .before .before .before .before .before .before .args .t1 in let z : raw.ClassEntry = record { class = 0; low = 0; high = 0 } in
     let k : s .sizes .classes ≤ length (s .classes) = omega (arith, c .before .before .before .before .before .before .pre, l .inv .2) in
     let h : l .i < s .sizes .classes = c .before .before .before .before .loop-test .taken in
-    let j : l .i < length (map classBy (take (s .sizes .classes) (s .classes))) = omega (arith, view-long classBy (s .classes) (s .sizes .classes) k) in
+    let j : l .i < length (map classBy (take (s .sizes .classes) (s .classes))) = omega (arith, view-count classBy (s .classes) (s .sizes .classes) k) in
     let v = view-at classBy (s .classes) (s .sizes .classes) (l .i) (classBy z) z h k in (
       search needs,
       simp length-set (l .inv .1),
@@ -71,7 +71,7 @@ returns : tie.Need-returns Inv-loop μ-loop
 returns c = let l = c .before .before .before .before .loop in let s = c .before .before .before .before .before .args .t1 in let z : raw.ClassEntry = record { class = 0; low = 0; high = 0 } in
     let k : s .sizes .classes ≤ length (s .classes) = omega (arith, c .before .before .before .before .before .pre, l .inv .2) in
     let h : l .i < s .sizes .classes = c .before .before .before .loop-test .taken in
-    let j : l .i < length (map classBy (take (s .sizes .classes) (s .classes))) = omega (arith, view-long classBy (s .classes) (s .sizes .classes) k) in
+    let j : l .i < length (map classBy (take (s .sizes .classes) (s .classes))) = omega (arith, view-count classBy (s .classes) (s .sizes .classes) k) in
     let v = view-at classBy (s .classes) (s .sizes .classes) (l .i) (classBy z) z h k in
     (sym (l .inv .3 ∙ every-stop classValid (map classBy (take (s .sizes .classes) (s .classes))) (l .i) (classBy z) j (ap classValid v ∙ sym (c .before .valid .ensures) ∙ c .if1 .left)), λ t. never false refl t)
 
@@ -79,7 +79,7 @@ returns-2 : tie.Need-returns-2 Inv-loop μ-loop
 returns-2 c = let l = c .before .loop in let s = c .before .before .args .t1 in
     let k : s .sizes .classes ≤ length (s .classes) = omega (arith, c .before .before .pre, l .inv .2) in
     let e : l .i ≡ s .sizes .classes = omega arith in
-    let h : length (map classBy (take (s .sizes .classes) (s .classes))) ≤ l .i = omega (arith, view-long classBy (s .classes) (s .sizes .classes) k) in
+    let h : length (map classBy (take (s .sizes .classes) (s .classes))) ≤ l .i = omega (arith, view-count classBy (s .classes) (s .sizes .classes) k) in
     (sym (l .inv .3 ∙ every-end classValid (map classBy (take (s .sizes .classes) (s .classes))) (l .i) h), λ t. pack-end classAt (l .words) (map classBy (take (s .sizes .classes) (s .classes))) (l .i) (s .sizes .classes) e h (l .inv .4))
 
 pub pack-classes-spec : {M : Type 1} → statement M

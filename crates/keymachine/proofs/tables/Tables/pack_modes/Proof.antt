@@ -11,8 +11,9 @@ use Rattle.rules.specs.Tables.{modeValid, ModeEntry}
 use Rattle.keyparts.specs.declared.step.Maybe.the-variants.{Nothing}
 use Rattle.keymachine.specs.declared.tables.ModeEntry as raw
 use Rattle.keymachine.specs.Views.{wholeEntry, entryOf, blocks}
-use Rattle.keymachine.proofs.Lists.{length-mapped, length-blocks}
-use Rattle.keymachine.proofs.Packs.{never, every-on, every-stop, every-end, pack-on, pack-end, view-at, view-long, three-words}
+use Rattle.keyparts.proofs.Ranges.{length-mapped, view-count}
+use Rattle.keymachine.proofs.Lists.{length-blocks}
+use Rattle.keymachine.proofs.Packs.{never, every-on, every-stop, every-end, pack-on, pack-end, view-at, three-words}
 use Rattle.keymachine.proofs.tables.Tables.pack_modes.Statement.{statement}
 use Rattle.keymachine.proofs.tables.Tables.pack_modes.Tie as tie
 
@@ -86,7 +87,7 @@ loop-again c = let l = c .before .before .before .before .before .loop in let s 
     let k : s .sizes .modes ≤ length (s .modes) = omega (arith, c .before .before .before .before .before .before .pre, l .inv .2) in
     let h : l .i < s .sizes .modes = c .before .before .before .before .loop-test .taken in
     let i : l .i < 16 = omega (arith, c .before .before .before .before .before .before .pre) in
-    let j : l .i < length (map wholeEntry (take (s .sizes .modes) (s .modes))) = omega (arith, view-long wholeEntry (s .modes) (s .sizes .modes) k) in
+    let j : l .i < length (map wholeEntry (take (s .sizes .modes) (s .modes))) = omega (arith, view-count wholeEntry (s .modes) (s .sizes .modes) k) in
     let b : l .i < length (blocks 3 16 (l .words)) = omega (arith, length-blocks 3 16 (l .words)) in
     let v = view-at wholeEntry (s .modes) (s .sizes .modes) (l .i) (wholeEntry z) z h k in (
       search needs,
@@ -101,7 +102,7 @@ returns : tie.Need-returns Inv-loop μ-loop
 returns c = let l = c .before .before .before .before .loop in let s = c .before .before .before .before .before .args .t1 in let z : raw.ModeEntry = record { enter = record { items = []; count = 0 }; unmapped = record { items = []; count = 0 }; next = Nothing } in
     let k : s .sizes .modes ≤ length (s .modes) = omega (arith, c .before .before .before .before .before .pre, l .inv .2) in
     let h : l .i < s .sizes .modes = c .before .before .before .loop-test .taken in
-    let j : l .i < length (map wholeEntry (take (s .sizes .modes) (s .modes))) = omega (arith, view-long wholeEntry (s .modes) (s .sizes .modes) k) in
+    let j : l .i < length (map wholeEntry (take (s .sizes .modes) (s .modes))) = omega (arith, view-count wholeEntry (s .modes) (s .sizes .modes) k) in
     let v = view-at wholeEntry (s .modes) (s .sizes .modes) (l .i) (wholeEntry z) z h k in
     (sym (l .inv .3 ∙ every-stop modeValid (map wholeEntry (take (s .sizes .modes) (s .modes))) (l .i) (wholeEntry z) j (ap modeValid v ∙ sym (c .before .valid .ensures) ∙ c .if1 .left)), λ t. never false refl t)
 
@@ -109,7 +110,7 @@ returns-2 : tie.Need-returns-2 Inv-loop μ-loop
 returns-2 c = let l = c .before .loop in let s = c .before .before .args .t1 in
     let k : s .sizes .modes ≤ length (s .modes) = omega (arith, c .before .before .pre, l .inv .2) in
     let e : l .i ≡ s .sizes .modes = omega arith in
-    let h : length (map wholeEntry (take (s .sizes .modes) (s .modes))) ≤ l .i = omega (arith, view-long wholeEntry (s .modes) (s .sizes .modes) k) in
+    let h : length (map wholeEntry (take (s .sizes .modes) (s .modes))) ≤ l .i = omega (arith, view-count wholeEntry (s .modes) (s .sizes .modes) k) in
     (sym (l .inv .3 ∙ every-end modeValid (map wholeEntry (take (s .sizes .modes) (s .modes))) (l .i) h), λ t. pack-end entryOf (blocks 3 16 (l .words)) (map wholeEntry (take (s .sizes .modes) (s .modes))) (l .i) (s .sizes .modes) e h (l .inv .4))
 
 pub pack-modes-spec : {M : Type 1} → statement M

@@ -11,8 +11,8 @@ use Rattle.rules.specs.Basics.{every}
 use Rattle.rules.specs.Tables.{ruleValid}
 use Rattle.keyparts.specs.View.{classAt}
 use Rattle.keymachine.specs.Views.{ruleBy, ruleOf}
-use Rattle.keymachine.proofs.Lists.{length-mapped}
-use Rattle.keymachine.proofs.Packs.{never, every-on, every-stop, every-end, pack-on, pack-end, view-at, view-long}
+use Rattle.keyparts.proofs.Ranges.{length-mapped, view-count}
+use Rattle.keymachine.proofs.Packs.{never, every-on, every-stop, every-end, pack-on, pack-end, view-at}
 use Rattle.keymachine.proofs.tables.Tables.pack_rules.Statement.{statement}
 use Rattle.keymachine.proofs.tables.Tables.pack_rules.Tie as tie
 
@@ -58,7 +58,7 @@ loop-again : tie.Need-loop-again Inv-loop μ-loop
 loop-again c = let l = c .before .before .before .before .before .loop in let s = c .before .before .before .before .before .before .args .t1 in let z : raw.Rule = record { mode = 0; low = 0; high = 0; sequence = 0; status = 0 } in
     let k : s .sizes .rules ≤ length (s .rules) = omega (arith, c .before .before .before .before .before .before .pre, l .inv .2) in
     let h : l .i < s .sizes .rules = c .before .before .before .before .loop-test .taken in
-    let j : l .i < length (map ruleBy (take (s .sizes .rules) (s .rules))) = omega (arith, view-long ruleBy (s .rules) (s .sizes .rules) k) in
+    let j : l .i < length (map ruleBy (take (s .sizes .rules) (s .rules))) = omega (arith, view-count ruleBy (s .rules) (s .sizes .rules) k) in
     let v = view-at ruleBy (s .rules) (s .sizes .rules) (l .i) (ruleBy z) z h k in (
       search needs,
       simp length-set (l .inv .1),
@@ -71,7 +71,7 @@ returns : tie.Need-returns Inv-loop μ-loop
 returns c = let l = c .before .before .before .before .loop in let s = c .before .before .before .before .before .args .t1 in let z : raw.Rule = record { mode = 0; low = 0; high = 0; sequence = 0; status = 0 } in
     let k : s .sizes .rules ≤ length (s .rules) = omega (arith, c .before .before .before .before .before .pre, l .inv .2) in
     let h : l .i < s .sizes .rules = c .before .before .before .loop-test .taken in
-    let j : l .i < length (map ruleBy (take (s .sizes .rules) (s .rules))) = omega (arith, view-long ruleBy (s .rules) (s .sizes .rules) k) in
+    let j : l .i < length (map ruleBy (take (s .sizes .rules) (s .rules))) = omega (arith, view-count ruleBy (s .rules) (s .sizes .rules) k) in
     let v = view-at ruleBy (s .rules) (s .sizes .rules) (l .i) (ruleBy z) z h k in
     (sym (l .inv .3 ∙ every-stop ruleValid (map ruleBy (take (s .sizes .rules) (s .rules))) (l .i) (ruleBy z) j (ap ruleValid v ∙ sym (c .before .valid .ensures) ∙ c .if1 .left)), λ t. never false refl t)
 
@@ -79,7 +79,7 @@ returns-2 : tie.Need-returns-2 Inv-loop μ-loop
 returns-2 c = let l = c .before .loop in let s = c .before .before .args .t1 in
     let k : s .sizes .rules ≤ length (s .rules) = omega (arith, c .before .before .pre, l .inv .2) in
     let e : l .i ≡ s .sizes .rules = omega arith in
-    let h : length (map ruleBy (take (s .sizes .rules) (s .rules))) ≤ l .i = omega (arith, view-long ruleBy (s .rules) (s .sizes .rules) k) in
+    let h : length (map ruleBy (take (s .sizes .rules) (s .rules))) ≤ l .i = omega (arith, view-count ruleBy (s .rules) (s .sizes .rules) k) in
     (sym (l .inv .3 ∙ every-end ruleValid (map ruleBy (take (s .sizes .rules) (s .rules))) (l .i) h), λ t. pack-end ruleOf (l .words) (map ruleBy (take (s .sizes .rules) (s .rules))) (l .i) (s .sizes .rules) e h (l .inv .4))
 
 pub pack-rules-spec : {M : Type 1} → statement M
