@@ -6,6 +6,7 @@ pub mod Modes
 pub mod Rounds
 pub mod Stack
 pub mod Loop
+pub mod Navigators
 pub mod Packs
 pub mod Repeats
 pub mod Calls

@@ -12,8 +12,9 @@ use Rattle.rules.specs.Tables as t
 use Rattle.rules.specs.KeyLoop as key
 use Rattle.rules.specs.Calls as c
 use Rattle.rules.specs.Graph as g
-use Rattle.keyparts.specs.View.{fourOf, optOf, classesOf, maybeOf, stepOf, fit}
-use Rattle.keygraph.specs.View.{graphOf}
+use Rattle.keyparts.specs.View.{fourOf, optOf, classesOf, maybeOf, stepOf, fit, reached, followLinks}
+use Rattle.keygraph.specs.declared.graph.Counts.{Counts}
+use Rattle.keygraph.specs.View.{edgeWords, graphIn, graphOf}
 use Rattle.keymachine.specs.declared.context.Context.{Context}
 use Rattle.keymachine.specs.declared.context.Override.{Override}
 use Rattle.keymachine.specs.declared.context.Override.the-variants.{Nothing, By}
@@ -185,6 +186,14 @@ giveGoto gr acts next c₀ = do
   key.gotoMode (c.graphNavigator gr) (Option·getD next (c₁ .mode)) c₁
 
 -- ---- a round
+
+-- the graph in the words, followed as the links lead, whatever they are; else it is the graph's own navigator
+unfoldable pub linkNavigator : List ℕ → Counts → List ℕ → key.Navigator ℕ
+linkNavigator ws k ls = record {
+  turn = λ cs n key. c.turnBy (graphIn ws k) n (followLinks cs (reached (edgeWords ws) (k .edges)) ls n key);
+  root = λ m. m;
+  modeOf = λ n. g.getNode (graphIn ws k) n .mode;
+}
 
 abbrev pub resultBy : InputResult → v.Step → key.InputResult
 resultBy Again s = key.Again

@@ -162,7 +162,7 @@ impl ModalMachine {
         }
     }
 
-    // One key, in place on copies of the live arrays.
+    // One key, in place on copies of the live arrays. A machine is any value of its struct, so the index is not kept in it.
     pub fn input_key(self, key: u16, budget: u16) -> Keyed
         ensures { λ r. ⌜ (machineOf (r .machine), pressOf (r .answer)) ≡ call graphKind (machineOf self) (Press (record { key = key; budget = budget })) ⌝ }
     {
@@ -172,9 +172,11 @@ impl ModalMachine {
         let counts = self.graph.counts;
         let sizes = self.tables.sizes;
         let s = self.state;
+        let index = key::index_of(&self.graph.words, counts);
         let r = key::input_key(
             &self.graph.words,
             counts,
+            &index.links,
             &self.tables.classes,
             &self.tables.modes,
             &self.tables.rules,
