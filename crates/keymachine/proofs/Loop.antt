@@ -1,4 +1,4 @@
--- The key loop against `loop`: what each kind of round does to its invariant.
+-- The key loop against `loop`, with any navigator: what each kind of round does to its invariant.
 use Prim.Native.Nat.{ℕ, zero, suc, _+_, _-_, _*_, _/_, _≤_, _<_, min, zero-le}
 use mathlib.Core.Path.{_≡_, refl, sym, ap, _∙_}
 use mathlib.Core.Bool.{Bool, true, false}

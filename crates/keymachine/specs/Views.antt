@@ -187,7 +187,7 @@ giveGoto gr acts next c₀ = do
 
 -- ---- a round
 
--- the graph in the words, followed as the links lead, whatever they are; else it is the graph's own navigator
+-- the navigator of the graph in the words, but that following goes as the links lead
 unfoldable pub linkNavigator : List ℕ → Counts → List ℕ → key.Navigator ℕ
 linkNavigator ws k ls = record {
   turn = λ cs n key. c.turnBy (graphIn ws k) n (followLinks cs (reached (edgeWords ws) (k .edges)) ls n key);

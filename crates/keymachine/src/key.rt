@@ -70,7 +70,7 @@ pub fn index_of(words: &[u64; 4128], counts: Counts) -> Index
 }
 
 // The rounds of `input_key`: the outer loop goes over the stack, and the inner one tries one key until it is consumed,
-// needs more, or is unmapped.
+// needs more, or is unmapped. Any links will do: following goes as they lead, and with those of `index_of` as the edges do.
 pub fn input_key<'a>(
     words: &'a [u64; 4128],
     counts: Counts,
