@@ -1,2 +1,1 @@
--- What the program's contracts cite.
 pub mod Frames
