@@ -128,18 +128,3 @@ pub reset-is : (g : Graph) (r : Result (State ℕ)) (place mode : ℕ) (t : Tabl
     → r ≡ gotoMode (graphNavigator g) 0 (shared t mode x q tr ts') → r ≡ resetMode (graphNavigator g) (at place (shared t mode x q tr ts))
 unfolding resetMode
 reset-is g r place mode t x q tr ts ts' e p = p ∙ ap (λ (ts : List Tracker). gotoMode (graphNavigator g) 0 (shared t mode x q tr ts)) e
-
-module _ (ws₀ ws : List ℕ) (i : ℕ) where
-  pub break-on : (new : List ℕ) (k : ℕ) → length ws ≡ 520 → i < 8 → trackersOf ws ≡ map broke (take i (trackersOf ws₀)) ++ drop i (trackersOf ws₀) → k ≡ 65 → length new ≡ 65
-      → trackerOf new ≡ broke (trackerOf (take k (drop (i * 65) ws)))
-      → trackersOf (take (i * 65) ws ++ (new ++ drop k (drop (i * 65) ws))) ≡ map broke (take (i + 1) (trackersOf ws₀)) ++ drop (i + 1) (trackersOf ws₀)
-  break-on new k l h inv ek ln e =
-      let n : i < length (trackersOf ws₀) = omega (arith, length-map (blocks 65 8 ws₀) trackerOf, length-blocks 65 8 ws₀) in
-      let d : getD (trackersOf ws) i noTracker ≡ getD (trackersOf ws₀) i noTracker = ap (λ (r : List Tracker). getD r i noTracker) inv ∙ map-at broke (trackersOf ws₀) i noTracker n in
-      let v : trackerOf new ≡ broke (getD (trackersOf ws₀) i noTracker) = e ∙ ap (λ (j : ℕ). broke (trackerOf (take j (drop (i * 65) ws)))) ek ∙ ap broke (sym (tracker-at ws i l h) ∙ d) in
-      ap (λ (j : ℕ). trackersOf (take (i * 65) ws ++ (new ++ drop j (drop (i * 65) ws)))) ek ∙ trackers-back ws i l h new ln ∙ rw (v, inv) (map-more broke (trackersOf ws₀) i noTracker n)
-
-  pub break-end : 8 ≤ i → trackersOf ws ≡ map broke (take i (trackersOf ws₀)) ++ drop i (trackersOf ws₀) → trackersOf ws ≡ map broke (trackersOf ws₀)
-  break-end h inv =
-      let n : length (trackersOf ws₀) ≤ i = omega (arith, length-map (blocks 65 8 ws₀) trackerOf, length-blocks 65 8 ws₀) in
-      inv ∙ rw (take-all i (trackersOf ws₀) n, drop-of-length-le (trackersOf ws₀) n, append-nil)
