@@ -5,10 +5,12 @@ use std::hint::black_box;
 use crate::timing::{clock, compare, Times};
 
 extern "C" {
+    fn bench_index(edges: *const u64, edge_len: usize, count: u16, links: *mut [u16; LINKS]);
     fn bench_follow(
         edges: *const u64,
         edge_len: usize,
         count: u16,
+        links: *const [u16; LINKS],
         classes: *const u64,
         class_len: usize,
         entries: u16,
@@ -18,6 +20,9 @@ extern "C" {
     fn bench_add_in_place(n: u16) -> u16;
     fn bench_add_by_value(n: u16) -> u16;
 }
+
+/// How many links an index has.
+const LINKS: usize = 2_304;
 
 /// A key that no edge takes.
 const NOBODYS: u16 = 60_000;
@@ -35,33 +40,48 @@ fn class(class: u64, low: u64, high: u64) -> u64 {
     class + 65_536 * (low + 65_536 * high)
 }
 
-fn follow_once(edges: &[u64], classes: &[u64], key: u16) -> u16 {
-    let (count, entries) = (edges.len() as u16, classes.len() as u16);
-    unsafe {
-        bench_follow(
-            edges.as_ptr(),
-            edges.len(),
-            count,
-            classes.as_ptr(),
-            classes.len(),
-            entries,
-            black_box(0),
-            black_box(key),
-        )
-    }
+/// Edges with the index of them.
+struct Edges {
+    words: Vec<u64>,
+    links: [u16; LINKS],
 }
 
-/// Nanoseconds of a following from node 0.
-fn follow(edges: &[u64], classes: &[u64], key: u16) -> Times {
-    const CALLS: usize = 20_000;
-    let [times] = compare([&mut || {
-        clock(|| {
-            for _ in 0..CALLS {
-                black_box(follow_once(edges, classes, key));
-            }
-        })
-    }]);
-    times.each(CALLS)
+impl Edges {
+    fn new(words: Vec<u64>) -> Self {
+        let mut links = [0; LINKS];
+        unsafe { bench_index(words.as_ptr(), words.len(), words.len() as u16, &mut links) };
+        Self { words, links }
+    }
+
+    fn follow_once(&self, classes: &[u64], key: u16) -> u16 {
+        let (count, entries) = (self.words.len() as u16, classes.len() as u16);
+        unsafe {
+            bench_follow(
+                self.words.as_ptr(),
+                self.words.len(),
+                count,
+                &self.links,
+                classes.as_ptr(),
+                classes.len(),
+                entries,
+                black_box(0),
+                black_box(key),
+            )
+        }
+    }
+
+    /// Nanoseconds of a following from node 0.
+    fn follow(&self, classes: &[u64], key: u16) -> Times {
+        const CALLS: usize = 20_000;
+        let [times] = compare([&mut || {
+            clock(|| {
+                for _ in 0..CALLS {
+                    black_box(self.follow_once(classes, key));
+                }
+            })
+        }]);
+        times.each(CALLS)
+    }
 }
 
 /// The three followings at so many edges: a Key edge near the end, no edge and no class, and no edge but one class.
@@ -73,20 +93,21 @@ pub struct Followings {
 }
 
 pub fn followings(n: usize) -> Followings {
-    let edges: Vec<u64> = (0..n as u64).map(|i| edge(i % 40, i, 16 + i % 1000)).collect();
+    let words: Vec<u64> = (0..n as u64).map(|i| edge(i % 40, i, 16 + i % 1000)).collect();
+    let with_class = Edges::new([&[edge(0, 65_536, 77)], &words[..]].concat());
+    let edges = Edges::new(words);
     let last = ((n - 1) / 40 * 40) as u16;
     let digits = [class(0, NOBODYS as u64 - 1, NOBODYS as u64 + 1)];
-    assert_eq!(follow_once(&edges, &[], last), 16 + last % 1000);
-    assert_eq!(follow_once(&edges, &[], NOBODYS), NOWHERE);
-    assert_eq!(follow_once(&edges, &digits, NOBODYS), NOWHERE);
+    assert_eq!(edges.follow_once(&[], last), 16 + last % 1000);
+    assert_eq!(edges.follow_once(&[], NOBODYS), NOWHERE);
+    assert_eq!(edges.follow_once(&digits, NOBODYS), NOWHERE);
     // the class's word means what is meant by it: with an edge for the class, the key goes along it
-    let with_class = [&edges[..], &[edge(0, 65_536, 77)]].concat();
-    assert_eq!(follow_once(&with_class, &digits, NOBODYS), 77);
+    assert_eq!(with_class.follow_once(&digits, NOBODYS), 77);
     Followings {
         edges: n,
-        hit: follow(&edges, &[], last),
-        miss: follow(&edges, &[], NOBODYS),
-        class: follow(&edges, &digits, NOBODYS),
+        hit: edges.follow(&[], last),
+        miss: edges.follow(&[], NOBODYS),
+        class: edges.follow(&digits, NOBODYS),
     }
 }
 

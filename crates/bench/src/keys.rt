@@ -45,13 +45,14 @@ fn keys_over<'a>(
     keys: &[u16],
     words: &'a [u64; 4128],
     counts: Counts,
+    links: &'a [u16; 2304],
     classes: &'a [u64],
     modes: &'a [u64],
     rules: &'a [u64],
     sizes: Sizes,
     budget: u16,
 ) -> u64
-    requires { ⌜ length (now words) ≡ 4128 ⌝ }
+    requires { ⌜ (length (now words) ≡ 4128) × (length (now links) ≡ 2304) ⌝ }
 {
     let mut queue = [0u64; 256];
     let mut sequences = [0u64; 520];
@@ -71,6 +72,7 @@ fn keys_over<'a>(
         let k = key::input_key(
             words,
             counts,
+            links,
             classes,
             modes,
             rules,
@@ -102,10 +104,12 @@ pub extern "C" fn bench_keys_in_place<'a>(bytes: &'a [u8], keys: &'a [u16], budg
     let m = map::read_map(bytes);
     let counts = m.counts;
     let sizes = m.sizes;
+    let index = key::index_of(&m.words, counts);
     keys_over(
         keys,
         &m.words,
         counts,
+        &index.links,
         &m.classes,
         &m.modes,
         &m.rules,

@@ -6,23 +6,37 @@ use keygraph::event::EdgeRepeat;
 use keygraph::follow;
 use keygraph::follow::FollowResult;
 use keygraph::graph::Graph;
+use keygraph::index::Index;
 use keygraph::mapping;
 use keygraph::path::EdgePath;
 use keygraph::path::EdgePathPart;
 use keygraph::step::Maybe;
 use keygraph::step::Step;
+ghost use mathlib.Core.Path.{_≡_};
+ghost use lib.ListN.{length};
+
+// The links of an index of the edges.
+#[no_mangle]
+pub extern "C" fn bench_index(edges: &[u64], count: u16, links: &mut [u16; 2304]) {
+    let index = Index::new(edges, count);
+    let made = index.links;
+    *links = made;
+}
 
 // The node that following a key leads to, or 65,535.
 #[no_mangle]
 pub extern "C" fn bench_follow<'a>(
     edges: &'a [u64],
     count: u16,
+    links: &'a [u16; 2304],
     classes: &'a [u64],
     entries: u16,
     node: u16,
     key: u16,
-) -> u16 {
-    let f = follow::follow_edge(edges, count, classes, entries, node, key);
+) -> u16
+    requires { ⌜ length (now links) ≡ 2304 ⌝ }
+{
+    let f = follow::follow_edge(edges, count, links, classes, entries, node, key);
     match f {
         FollowResult::Successor(_, to) => to,
         FollowResult::Fallthrough(to) => to,

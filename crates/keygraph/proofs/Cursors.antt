@@ -15,11 +15,8 @@ use Rattle.rules.specs.Graph.{Graph, Cursor, cursor, NodeAction, Empty, addNode
 use Rattle.keygraph.specs.Making.{Leads, Makes, resultOf, outcome, cursorIn, settledAt, upserted, paid, addParts, minTo, minOn}
 use Rattle.keygraph.specs.declared.cursor.Cursor as C
 use Rattle.keyparts.specs.View.{eventAt}
-use Rattle.keygraph.specs.View.{graphIn, resultBy, settled}
+use Rattle.keygraph.specs.View.{graphIn}
 use Rattle.keygraph.specs.declared.graph.Counts.{Counts}
-use Rattle.keygraph.specs.declared.graph.Answer.{Answer}
-use Rattle.keygraph.specs.declared.graph.Answer.the-variants.{Accepted, Refused}
-use Rattle.rules.specs.Calls as calls
 use Rattle.keyparts.proofs.Words.{event-fall, take-min}
 use Rattle.keygraph.proofs.Binds.{then as next, with, bind-assoc, leads-as}
 
@@ -321,13 +318,3 @@ pub call-done : (ws : List ℕ) (k : Counts) (mode : ℕ) (f : Cursor → Result
     → Leads (outcome ws s) f y → (y >>= (λ c. accept (c .graph))) ≡ (f (cursor (graphIn ws k) mode false) >>= (λ c. accept (c .graph)))
 unfolding outcome resultOf
 call-done ws k mode f {y} s e l = ap (λ (r : Result Cursor). r >>= (λ c. accept (c .graph))) (rw e at (l .is))
-
--- ---- the call by value
-module _ (old new : Graph) (a : Answer) (r : Result Graph) (h : resultBy a new ≡ r) where
-  pub settles : a ≡ Accepted → (new, calls.Accepted) ≡ settled old r
-  unfolding settled
-  settles e = rw (← h, e)
-
-  pub settles-not : (n : ℕ) → a ≡ Refused n → (old, calls.Refused n) ≡ settled old r
-  unfolding settled
-  settles-not n e = rw (← h, e)

@@ -11,7 +11,7 @@ use Rattle.rules.specs.Graph.{Graph, addEdge, addNode, settle}
 use Rattle.keygraph.specs.declared.graph.Counts.{Counts}
 use Rattle.keyparts.specs.View.{eventAt, nodeAt, nodesOf, edgesOf, find, keyIs}
 use Rattle.keygraph.specs.View.{graphFrom, graphIn, edgeWords, headWords, actWords}
-use Rattle.keyparts.proofs.Finds.{edge-replaced, edge-appended, edge-full}
+use Rattle.keyparts.proofs.Finds.{find-most, edge-replaced, edge-appended, edge-full}
 use Rattle.keyparts.proofs.Nodes.{node-added, node-full, settle-set, settle-out, settle-other}
 
 module _ (ws : List ℕ) (hl : length ws ≡ 4128) where
@@ -72,7 +72,7 @@ module _ (ws : List ℕ) (i w : ℕ) where
 edge-stored : (ws : List ℕ) (i w : ℕ) (k : Counts) → i < 2048 → graphIn (set ws i w) k ≡ graphFrom (headWords ws) (actWords ws) (set (edgeWords ws) i w) k
 edge-stored ws i w k h = rw (edge-in ws i w h, edge-heads ws i w h, edge-acts ws i w h)
 
-node-stored : (ws : List ℕ) (i h w : ℕ) (k : Counts) → i < 1040
+pub node-stored : (ws : List ℕ) (i h w : ℕ) (k : Counts) → i < 1040
     → graphIn (set (set ws (2048 + i) h) (3088 + i) w) k ≡ graphFrom (set (headWords ws) i h) (set (actWords ws) i w) (edgeWords ws) k
 node-stored ws i h w k l =
     rw (act-heads (set ws (2048 + i) h) i w, act-in (set ws (2048 + i) h) i w l, act-edges (set ws (2048 + i) h) i w, head-in ws i h l, head-acts ws i h l, head-edges ws i h)
@@ -85,18 +85,29 @@ module _ (ws : List ℕ) (k : Counts) (from code to n i w : ℕ) (hf : from < 65
       let b : i < 2048 = omega arith in
       ap accept (edge-stored ws i w k b) ∙ edge-replaced (nodesOf (headWords ws) (actWords ws) (k .nodes)) (k .edges) (edgeWords ws) from code to n i w hf ht (edges-length ws hl) hn hi hw h
 
-  pub edge-more : n ≤ i → n < 2048 → accept (graphIn (set ws n w) (record { nodes = k .nodes; edges = n + 1 })) ≡ addEdge from to (eventAt code) (graphIn ws k)
-  edge-more h r = ap accept (edge-stored ws n w (record { nodes = k .nodes; edges = n + 1 }) r)
+  -- the search ends behind the last at the latest
+  found : i ≤ n
+  found = omega (arith, find-most (keyIs (from + code * 65536)) (take (k .edges) (edgeWords ws)), length-take (k .edges) (edgeWords ws), edges-length ws hl)
+
+  pub edge-more : n ≤ i → i < 2048 → accept (graphIn (set ws i w) (record { nodes = k .nodes; edges = n + 1 })) ≡ addEdge from to (eventAt code) (graphIn ws k)
+  edge-more h l =
+      let e : i ≡ n = omega (arith, found) in
+      let r : n < 2048 = omega arith in
+      ap (λ (j : ℕ). accept (graphIn (set ws j w) (record { nodes = k .nodes; edges = n + 1 }))) e
+      ∙ ap accept (edge-stored ws n w (record { nodes = k .nodes; edges = n + 1 }) r)
       ∙ edge-appended (nodesOf (headWords ws) (actWords ws) (k .nodes)) (k .edges) (edgeWords ws) from code to n i w hf ht (edges-length ws hl) hn hi hw h r
 
-  pub edge-none : n ≤ i → 2048 ≤ n → refuse 3 ≡ addEdge from to (eventAt code) (graphIn ws k)
-  edge-none h r = edge-full (nodesOf (headWords ws) (actWords ws) (k .nodes)) (k .edges) (edgeWords ws) from code to n i w hf ht (edges-length ws hl) hn hi hw h r
+  pub edge-none : 2048 ≤ i → refuse 3 ≡ addEdge from to (eventAt code) (graphIn ws k)
+  edge-none l =
+      let h : n ≤ i = omega arith in
+      let r : 2048 ≤ n = omega (arith, found) in
+      edge-full (nodesOf (headWords ws) (actWords ws) (k .nodes)) (k .edges) (edgeWords ws) from code to n i w hf ht (edges-length ws hl) hn hi hw h r
 
--- ---- a node more
+-- ---- a node more: x is the graph after its words were stored
 module _ (ws : List ℕ) (k : Counts) (n h w : ℕ) (hl : length ws ≡ 4128) (hn : n ≡ min (k .nodes) 1040) where
-  pub node-more : n < 1040
-      → accept (graphIn (set (set ws (2048 + n) h) (3088 + n) w) (record { nodes = n + 1; edges = k .edges }), n) ≡ addNode (nodeAt h w .mode) (nodeAt h w .action) (graphIn ws k)
-  node-more r = ap (λ (x : Graph). accept (x, n)) (node-stored ws n h w (record { nodes = n + 1; edges = k .edges }) r)
+  pub node-more : {x : Graph} → x ≡ graphFrom (set (headWords ws) n h) (set (actWords ws) n w) (edgeWords ws) (record { nodes = n + 1; edges = k .edges }) → n < 1040
+      → accept (x, n) ≡ addNode (nodeAt h w .mode) (nodeAt h w .action) (graphIn ws k)
+  node-more e r = ap (λ (x : Graph). accept (x, n)) e
       ∙ node-added (edgesOf (edgeWords ws) (k .edges)) (headWords ws) (actWords ws) (k .nodes) n h w (heads-length ws hl) (acts-length ws hl) hn r
 
   pub node-none : 1040 ≤ n → refuse 2 ≡ addNode (nodeAt h w .mode) (nodeAt h w .action) (graphIn ws k)
@@ -104,10 +115,9 @@ module _ (ws : List ℕ) (k : Counts) (n h w : ℕ) (hl : length ws ≡ 4128) (h
 
 -- ---- a node that is there gets the step: o is its first word
 module _ (ws : List ℕ) (k : Counts) (n node h w o : ℕ) (hl : length ws ≡ 4128) (hn : n ≡ min (k .nodes) 1040) (hk : 2 ≤ h / 128 % 4) (old : o ≡ getD (take (k .nodes) (headWords ws)) node 0) where
-  pub settle-put : o % 128 ≡ h % 128 → node < n → accept (graphIn (set (set ws (2048 + node) h) (3088 + node) w) k, node) ≡ settle (nodeAt h w .mode) node (nodeAt h w .action) (graphIn ws k)
-  settle-put q r =
-      let b : node < 1040 = omega arith in
-      ap (λ (x : Graph). accept (x, node)) (node-stored ws node h w k b)
+  pub settle-put : {x : Graph} → x ≡ graphFrom (set (headWords ws) node h) (set (actWords ws) node w) (edgeWords ws) k → o % 128 ≡ h % 128 → node < n
+      → accept (x, node) ≡ settle (nodeAt h w .mode) node (nodeAt h w .action) (graphIn ws k)
+  settle-put e q r = ap (λ (x : Graph). accept (x, node)) e
       ∙ settle-set (edgesOf (edgeWords ws) (k .edges)) (headWords ws) (actWords ws) (k .nodes) n node h w o (heads-length ws hl) (acts-length ws hl) hn hk old q r
 
   pub settle-past : o % 128 ≡ h % 128 → n ≤ node → accept (graphIn ws k, node) ≡ settle (nodeAt h w .mode) node (nodeAt h w .action) (graphIn ws k)

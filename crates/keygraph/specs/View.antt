@@ -1,11 +1,16 @@
 -- What a graph's words and a call's answer mean in the values of the rules.
 use Prim.Native.Nat.{ℕ}
 use mathlib.Core.List.{List}
-use lib.ListN.{take, drop}
+use lib.ListN.{take, drop, set, getD}
 use Rattle.rules.specs.Basics.{Result, accept, refuse}
 use Rattle.rules.specs.Graph as g
 use Rattle.rules.specs.Calls as c
 use Rattle.keyparts.specs.View.{nodesOf, edgesOf, graphBy}
+use Rattle.keyparts.specs.declared.node.Packed.{Packed}
+use Rattle.keyparts.specs.declared.path.EdgePath.{EdgePath}
+use Rattle.keyparts.specs.declared.path.EdgePathPart.{EdgePathPart}
+use Rattle.keyparts.specs.declared.event.EdgeRepeat.the-variants.{Once}
+use Rattle.keyparts.specs.declared.event.EdgeEvent.the-variants.{Key}
 use Rattle.keygraph.specs.declared.graph.Counts.{Counts}
 use Rattle.keygraph.specs.declared.graph.Answer.{Answer}
 use Rattle.keygraph.specs.declared.graph.Answer.the-variants.{Accepted, Refused}
@@ -32,6 +37,15 @@ graphIn ws k = graphFrom (headWords ws) (actWords ws) (edgeWords ws) k
 
 abbrev pub graphOf : Graph → g.Graph
 graphOf x = graphIn (x .words) (x .counts)
+
+-- the graph in words of which those of one node are replaced
+abbrev pub withNode : List ℕ → ℕ → Packed → Counts → g.Graph
+withNode ws n p k = graphFrom (set (headWords ws) n (p .head)) (set (actWords ws) n (p .acts)) (edgeWords ws) k
+
+-- ---- paths
+
+abbrev pub partAt : EdgePath → ℕ → EdgePathPart
+partAt p i = getD (p .parts) i (record { repeat = Once; event = Key 0 })
 
 -- ---- answers
 

@@ -13,6 +13,8 @@ ghost use lib.ListN.{length};
 ghost use Rattle.rules.specs.Basics.{accept};
 ghost use Rattle.rules.specs.Graph as g;
 ghost use Rattle.keyparts.specs.View.{eventAt, packedOf};
+ghost use Rattle.keygraph.specs.declared.graph.Counts as k;
+ghost use Rattle.keygraph.specs.View.{graphIn, withNode};
 ghost use Rattle.keygraph.specs.Making.{Leads, Makes, outcome, settledAt, upserted, paid};
 
 // `prev` is the node come to, `owed` whether a Fallthrough edge is owed from there, and `refusal` the number of the
@@ -101,7 +103,8 @@ impl Cursor {
         }
     }
 
-    // An edge between any two nodes: the one with the same start and event is replaced, and else it goes to the end.
+    // An edge between any two nodes: the one with the same start and event is replaced, and else it goes to the end,
+    // which is the place that a search without a hit gives.
     pub(crate) fn add_edge(self, words: &mut [u64; 4128], from: u16, to: u16, code: u32) -> Cursor
         requires { ⌜ length (now words) ≡ 4128 ⌝ }
         ensures { λ r. ⌜ length (now (words .exit)) ≡ 4128 ⌝ }
@@ -112,14 +115,11 @@ impl Cursor {
             let n = number::least_of(k, 2048);
             let key = number::key_of(from, code);
             let i = parts::scan(words, k, key);
-            let w = (to as u64) + 65536 * key;
-            if i < (n as usize) {
-                words[i] = w;
-                return self;
-            }
-            if n < 2048 {
-                let j = n as usize;
-                words[j] = w;
+            if i < 2048 {
+                words[i] = (to as u64) + 65536 * key;
+                if i < (n as usize) {
+                    return self;
+                }
                 return self.with_edges(n + 1);
             }
             return self.refused(3);
@@ -159,9 +159,7 @@ impl Cursor {
             let k = self.counts.nodes;
             let n = number::least_of(k, 1040);
             if n < 1040 {
-                let i = n as usize;
-                words[2048 + i] = p.head;
-                words[3088 + i] = p.acts;
+                set_node(words, n, p);
                 let c = self.with_nodes(n + 1);
                 return Made { cursor: c, node: n };
             }
@@ -203,9 +201,7 @@ impl Cursor {
             let old = parts::head_at(words, k, node);
             if old % 128 == p.head % 128 {
                 if node < n {
-                    let i = node as usize;
-                    words[2048 + i] = p.head;
-                    words[3088 + i] = p.acts;
+                    set_node(words, node, p);
                     return kept;
                 }
                 return kept;
@@ -222,11 +218,21 @@ impl Cursor {
         ensures { λ r. ⌜ length (now (words .exit)) ≡ 4128 ⌝ }
         ensures { λ r. ⌜ Makes (outcome (now (words .entry)) self) (upserted (packedOf p .mode) (eventAt code) (packedOf p .action)) (outcome (now (words .exit)) (r .cursor)) (r .node) ⌝ }
     {
-        let k = self.counts.edges;
-        let e = parts::get_edge(words, k, self.prev, code);
+        let e = parts::get_edge(words, self.counts.edges, self.prev, code);
         match e {
-            Maybe::Just(n) => self.settle(words, n, p),
-            Maybe::Nothing => self.add_node(words, p),
+            Maybe::Just(n) => return self.settle(words, n, p),
+            Maybe::Nothing => return self.add_node(words, p),
         }
     }
+}
+
+// The two words of a node.
+fn set_node(words: &mut [u64; 4128], node: u16, p: Packed)
+    requires { ⌜ (length (now words) ≡ 4128) × (node < 1040) ⌝ }
+    ensures { λ r. ⌜ length (now (words .exit)) ≡ 4128 ⌝ }
+    ensures { λ r. ⌜ ((n : k.Counts) → graphIn (now (words .exit)) n ≡ withNode (now (words .entry)) node p n) ⌝ }
+{
+    let i = node as usize;
+    words[2048 + i] = p.head;
+    words[3088 + i] = p.acts;
 }

@@ -58,22 +58,11 @@ impl Graph {
         ensures { λ r. ⌜ graphOf r ≡ g.freshGraph ⌝ }
     {
         let mut words = [0u64; 4128];
-        words[2048] = 128;
-        words[2049] = 129;
-        words[2050] = 130;
-        words[2051] = 131;
-        words[2052] = 132;
-        words[2053] = 133;
-        words[2054] = 134;
-        words[2055] = 135;
-        words[2056] = 136;
-        words[2057] = 137;
-        words[2058] = 138;
-        words[2059] = 139;
-        words[2060] = 140;
-        words[2061] = 141;
-        words[2062] = 142;
-        words[2063] = 143;
+        let mut mode = 0usize;
+        while mode < 16 {
+            words[2048 + mode] = 128 + (mode as u64);
+            mode = mode + 1;
+        }
         Graph {
             words: words,
             counts: Counts {

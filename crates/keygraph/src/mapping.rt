@@ -4,6 +4,7 @@ use crate::graph::Added;
 use crate::graph::Answer;
 use crate::graph::Counts;
 use crate::graph::Graph;
+use crate::repeat;
 use keyparts::event;
 use keyparts::event::EdgeRepeat;
 use keyparts::node::Packed;
@@ -66,8 +67,8 @@ impl Cursor {
         ensures { λ r. ⌜ Leads (outcome (now (words .entry)) self) (g.mapFall (maybeOf fall)) (outcome (now (words .exit)) r) ⌝ }
     {
         match fall {
-            Maybe::Just(m) => self.edge_to(words, m, event::FALLTHROUGH),
-            Maybe::Nothing => self,
+            Maybe::Just(m) => return self.edge_to(words, m, event::FALLTHROUGH),
+            Maybe::Nothing => return self,
         }
     }
 
@@ -86,12 +87,11 @@ impl Cursor {
         ensures { λ r. ⌜ ((s : v.Step) → packedOf p ≡ record { mode = mode; action = g.Holds s } → Leads (outcome (now (words .entry)) self) (g.mapLast mode (v.Min n) (eventAt code) s) (outcome (now (words .exit)) r)) ⌝ }
     {
         let a = self.add_node(words, p);
-        let c = a.cursor;
         let e = a.node;
-        let b = c.add_empty(words, mode);
-        let d = b.cursor;
+        let b = a.cursor.add_empty(words, mode);
         let m = b.node;
-        d.add_edge(words, m, e, event::FALLTHROUGH)
+        b.cursor
+            .add_edge(words, m, e, event::FALLTHROUGH)
             .add_edge(words, m, m, code)
             .add_min(words, n, mode, code, e, m)
             .go(e)
@@ -112,9 +112,9 @@ impl Cursor {
         ensures { λ r. ⌜ ((s : v.Step) → packedOf p ≡ record { mode = mode; action = g.Holds s } → Leads (outcome (now (words .entry)) self) (g.mapLast mode (v.Max n) (eventAt code) s) (outcome (now (words .exit)) r)) ⌝ }
     {
         let a = self.add_node(words, p);
-        let c = a.cursor;
         let e = a.node;
-        c.edge_to(words, e, event::FALLTHROUGH)
+        a.cursor
+            .edge_to(words, e, event::FALLTHROUGH)
             .add_max(words, n, mode, code, e)
             .go(e)
     }
@@ -134,9 +134,9 @@ impl Cursor {
         ensures { λ r. ⌜ ((s : v.Step) → packedOf p ≡ record { mode = mode; action = g.Holds s } → Leads (outcome (now (words .entry)) self) (g.mapLast mode (repeatOf repeat) (eventAt code) s) (outcome (now (words .exit)) r)) ⌝ }
     {
         match repeat {
-            EdgeRepeat::Once => self.add_simple_step(words, code, p),
-            EdgeRepeat::Min(n) => self.map_min(words, n, mode, code, p),
-            EdgeRepeat::Max(n) => self.map_max(words, n, mode, code, p),
+            EdgeRepeat::Once => return self.add_simple_step(words, code, p),
+            EdgeRepeat::Min(n) => return self.map_min(words, n, mode, code, p),
+            EdgeRepeat::Max(n) => return self.map_max(words, n, mode, code, p),
         }
     }
 
@@ -180,7 +180,7 @@ impl Cursor {
             return self;
         }
         let last = n - 1;
-        let p = path.parts[last];
+        let p = repeat::part_at(path, last);
         self.add_intermediates(words, path, last, mode)
             .map_end(words, p, mode, step)
     }
@@ -219,22 +219,32 @@ impl Graph {
         ensures { λ r. ⌜ addedOf r ≡ settled (graphOf self) (b.unless (v.mapValid mode (wholePath path) (wholeStep step)) 1 (g.addMapping mode (wholePath path) (wholeStep step) (graphOf self))) ⌝ }
     {
         let mut words = self.words;
-        let k = self.counts;
-        let r = add_mapping_in(&mut words, k, mode, path, step);
+        let r = add_mapping_in(&mut words, self.counts, mode, path, step);
+        self.settled(words, r)
+    }
+
+    // The graph after a call in place on a copy of its words. Refused, the graph is the one before.
+    pub(crate) fn settled(self, words: [u64; 4128], r: Placed) -> Added
+        ensures { λ a. ⌜ addedOf a ≡ settled (graphOf self) (resultBy (r .answer) (graphIn words (r .counts))) ⌝ }
+    {
         let answer = r.answer;
         let counts = r.counts;
         match answer {
-            Answer::Accepted => Added {
-                graph: Graph {
-                    words: words,
-                    counts: counts,
-                },
-                answer: Answer::Accepted,
-            },
-            Answer::Refused(n) => Added {
-                graph: self,
-                answer: Answer::Refused(n),
-            },
+            Answer::Accepted => {
+                return Added {
+                    graph: Graph {
+                        words: words,
+                        counts: counts,
+                    },
+                    answer: answer,
+                };
+            }
+            Answer::Refused(n) => {
+                return Added {
+                    graph: self,
+                    answer: answer,
+                };
+            }
         }
     }
 }

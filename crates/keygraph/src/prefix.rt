@@ -5,6 +5,7 @@ use crate::graph::Answer;
 use crate::graph::Counts;
 use crate::graph::Graph;
 use crate::mapping::Placed;
+use crate::repeat;
 use keyparts::event;
 use keyparts::event::EdgeRepeat;
 use keyparts::node::Packed;
@@ -42,9 +43,9 @@ impl Cursor {
     {
         if chosen {
             let a = self.add_node(words, p);
-            let c = a.cursor;
             let n = a.node;
-            return c.edge_to(words, n, code)
+            return a.cursor
+                .edge_to(words, n, code)
                 .add_edge(words, n, mode, event::FALLTHROUGH);
         }
         self.edge_to(words, mode, code)
@@ -66,13 +67,12 @@ impl Cursor {
         ensures { λ r. ⌜ ((os : Option v.Step) → packedOf p ≡ record { mode = mode; action = g.actionOf os } → Leads (outcome (now (words .entry)) self) (g.prefixLast mode single (v.Min n) (eventAt code) os) (outcome (now (words .exit)) r)) ⌝ }
     {
         let a = self.add_node(words, p);
-        let c = a.cursor;
         let e = a.node;
-        let b = c.add_empty(words, mode);
-        let d = b.cursor;
+        let b = a.cursor.add_empty(words, mode);
         let m = b.node;
         let k = at_least(single, n);
-        d.add_edge(words, m, m, code)
+        b.cursor
+            .add_edge(words, m, m, code)
             .add_edge(words, m, e, event::FALLTHROUGH)
             .add_edge(words, e, mode, event::FALLTHROUGH)
             .add_min(words, k, mode, code, e, m)
@@ -97,9 +97,9 @@ impl Cursor {
             return self;
         }
         let a = self.add_node(words, p);
-        let c = a.cursor;
         let e = a.node;
-        c.edge_to(words, e, event::FALLTHROUGH)
+        a.cursor
+            .edge_to(words, e, event::FALLTHROUGH)
             .add_edge(words, e, mode, event::FALLTHROUGH)
             .add_max(words, n, mode, code, e)
     }
@@ -121,9 +121,9 @@ impl Cursor {
         ensures { λ r. ⌜ ((s : v.Step) → packedOf p ≡ record { mode = mode; action = g.actionOf (chosenOf chosen s) } → Leads (outcome (now (words .entry)) self) (g.prefixLast mode single (repeatOf repeat) (eventAt code) (chosenOf chosen s)) (outcome (now (words .exit)) r)) ⌝ }
     {
         match repeat {
-            EdgeRepeat::Once => self.prefix_once(words, mode, code, chosen, p),
-            EdgeRepeat::Min(n) => self.prefix_min(words, n, single, mode, code, p),
-            EdgeRepeat::Max(n) => self.prefix_max(words, n, single, mode, code, p),
+            EdgeRepeat::Once => return self.prefix_once(words, mode, code, chosen, p),
+            EdgeRepeat::Min(n) => return self.prefix_min(words, n, single, mode, code, p),
+            EdgeRepeat::Max(n) => return self.prefix_max(words, n, single, mode, code, p),
         }
     }
 
@@ -168,7 +168,7 @@ impl Cursor {
         }
         let last = n - 1;
         let single = last == 0;
-        let p = path.parts[last];
+        let p = repeat::part_at(path, last);
         self.add_intermediates(words, path, last, mode)
             .prefix_end(words, p, single, mode, chosen, step)
     }
@@ -243,22 +243,7 @@ impl Graph {
         ensures { λ r. ⌜ addedOf r ≡ settled (graphOf self) (b.unless (v.prefixValid mode (wholePath path) (chosenOf chosen (wholeStep step))) 1 (g.addPrefix mode (wholePath path) (chosenOf chosen (wholeStep step)) (graphOf self))) ⌝ }
     {
         let mut words = self.words;
-        let k = self.counts;
-        let r = add_prefix_in(&mut words, k, mode, path, chosen, step);
-        let answer = r.answer;
-        let counts = r.counts;
-        match answer {
-            Answer::Accepted => Added {
-                graph: Graph {
-                    words: words,
-                    counts: counts,
-                },
-                answer: Answer::Accepted,
-            },
-            Answer::Refused(n) => Added {
-                graph: self,
-                answer: Answer::Refused(n),
-            },
-        }
+        let r = add_prefix_in(&mut words, self.counts, mode, path, chosen, step);
+        self.settled(words, r)
     }
 }

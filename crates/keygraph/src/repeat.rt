@@ -15,6 +15,7 @@ ghost use lib.ListN.{length, take};
 ghost use Rattle.rules.specs.Values as v;
 ghost use Rattle.rules.specs.Graph as g;
 ghost use Rattle.keyparts.specs.View.{eventAt, packedOf, partOf, repeatOf};
+ghost use Rattle.keygraph.specs.View.{partAt};
 ghost use Rattle.keygraph.specs.Making.{Leads, outcome, addParts, minTo, minOn};
 
 impl Cursor {
@@ -25,9 +26,11 @@ impl Cursor {
         ensures { λ r. ⌜ Leads (outcome (now (words .entry)) self) (g.addSimpleStep (packedOf p .mode) (eventAt code) (packedOf p .action)) (outcome (now (words .exit)) r) ⌝ }
     {
         let m = self.upsert_node(words, code, p);
-        let c = m.cursor;
         let n = m.node;
-        c.pay(words, n).edge_to(words, n, code).go_owing(n, false)
+        m.cursor
+            .pay(words, n)
+            .edge_to(words, n, code)
+            .go_owing(n, false)
     }
 
     pub(crate) fn add_simple(self, words: &mut [u64; 4128], mode: u16, code: u32) -> Cursor
@@ -146,9 +149,9 @@ impl Cursor {
         ensures { λ r. ⌜ Leads (outcome (now (words .entry)) self) (g.addRepeat mode (v.Min n) (eventAt code)) (outcome (now (words .exit)) r) ⌝ }
     {
         let e = self.add_empty(words, mode);
-        let c = e.cursor;
         let m = e.node;
-        c.add_edge(words, m, m, code)
+        e.cursor
+            .add_edge(words, m, m, code)
             .min_on(words, n, mode, code, m)
             .go_owing(m, true)
     }
@@ -164,9 +167,9 @@ impl Cursor {
             return self;
         }
         let e = self.add_empty(words, mode);
-        let c = e.cursor;
         let m = e.node;
-        c.edge_to(words, m, event::FALLTHROUGH)
+        e.cursor
+            .edge_to(words, m, event::FALLTHROUGH)
             .add_max(words, n, mode, code, m)
             .go(m)
     }
@@ -185,9 +188,9 @@ impl Cursor {
         ensures { λ r. ⌜ Leads (outcome (now (words .entry)) self) (g.addRepeat mode (repeatOf repeat) (eventAt code)) (outcome (now (words .exit)) r) ⌝ }
     {
         match repeat {
-            EdgeRepeat::Once => self.add_simple(words, mode, code),
-            EdgeRepeat::Min(n) => self.repeat_min(words, n, mode, code),
-            EdgeRepeat::Max(n) => self.repeat_max(words, n, mode, code),
+            EdgeRepeat::Once => return self.add_simple(words, mode, code),
+            EdgeRepeat::Min(n) => return self.repeat_min(words, n, mode, code),
+            EdgeRepeat::Max(n) => return self.repeat_max(words, n, mode, code),
         }
     }
 
@@ -206,11 +209,10 @@ impl Cursor {
         let ev = part.event;
         let repeat = part.repeat;
         let code = ev.code();
-        let k = self.counts.edges;
-        let e = parts::get_edge(words, k, self.prev, code);
+        let e = parts::get_edge(words, self.counts.edges, self.prev, code);
         match e {
-            Maybe::Just(n) => self.go(n),
-            Maybe::Nothing => self.add_repeat(words, repeat, mode, code),
+            Maybe::Just(n) => return self.go(n),
+            Maybe::Nothing => return self.add_repeat(words, repeat, mode, code),
         }
     }
 
@@ -230,10 +232,18 @@ impl Cursor {
         let mut c = self;
         let mut i = 0usize;
         while i < n {
-            let p = path.parts[i];
+            let p = part_at(path, i);
             c = c.add_intermediate(words, p, mode);
             i = i + 1;
         }
         c
     }
+}
+
+// A part of a path by its number.
+pub(crate) fn part_at(path: EdgePath, i: usize) -> EdgePathPart
+    requires { ⌜ i < 32 ⌝ }
+    ensures { λ r. ⌜ r ≡ partAt path i ⌝ }
+{
+    path.parts[i]
 }

@@ -1,23 +1,22 @@
 -- The calls on a machine by value, against `call`.
-use Prim.Native.Nat.{ℕ, zero, suc, _+_, _-_, _*_, _≤_, _<_, min}
+use Prim.Native.Nat.{ℕ, zero, suc, _+_, _-_, _≤_, min}
 use mathlib.Core.Path.{_≡_, refl, sym, ap, _∙_}
 use mathlib.Core.Bool.{Bool, true, false}
 use mathlib.Core.Option.{Option}
-use mathlib.Core.List.{List, [], _∷_, _++_, map, append-nil}
+use mathlib.Core.List.{List, [], _∷_, map}
 use native.Mathlib.Omega.{arith}
-use lib.ListN.{length, take, drop, set, getD, length-map, length-drop, drop-of-length-le}
-use lib.Seq.{paste, take-paste, take-all}
+use lib.ListN.{length, take, drop, getD, length-drop}
+use lib.Seq.{paste, take-paste}
 use Rattle.rules.specs.Basics.{Result, accept, refuse, _>>=_, unless}
 use Rattle.rules.specs.Values.{Context, Pair, Part, Step, mapValid, prefixValid}
 use Rattle.rules.specs.Tables.{Tables, tablesValid}
 use Rattle.rules.specs.Graph.{Graph, addMapping, addPrefix}
-use Rattle.rules.specs.KeyLoop.{Tracker, noTracker, State, at, withQueue, KeyResult, Input, inputKey, gotoMode, resetMode, freshShared}
+use Rattle.rules.specs.KeyLoop.{Tracker, State, at, withQueue, KeyResult, Input, inputKey, gotoMode, resetMode, freshShared}
 use Rattle.rules.specs.KeyLoop as key
 use Rattle.rules.specs.Calls.{Machine, Answer, Accepted, Refused, Pressed, PressRefused, Popped, Nothing, withBindings, withState, withShared, fresh, open-with, settled, pressed, popped, map-call, prefix-call, key-call, reset-call, call, Open, Map, Prefix, Press, Pop, Reset, graphKind, graphNavigator}
 use Rattle.keygraph.specs.View as kg
-use Rattle.keymachine.specs.Views.{outcome, pairOf, pairsOf, trackerOf, trackersOf, blocks, broke, shared}
-use Rattle.keymachine.proofs.Lists.{map-more, map-at, length-blocks, drop-take, take-min}
-use Rattle.keymachine.proofs.Sequences.{tracker-at, trackers-back}
+use Rattle.keypairs.specs.Views.{outcome, pairOf, pairsOf, broke, shared}
+use Rattle.keymachine.proofs.Lists.{drop-take, take-min}
 
 -- ---- open
 

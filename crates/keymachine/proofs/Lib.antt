@@ -3,5 +3,6 @@ pub mod Lists
 pub mod Rounds
 pub mod Stack
 pub mod Loop
+pub mod Navigators
 pub mod Repeats
 pub mod Calls

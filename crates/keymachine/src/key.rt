@@ -1,12 +1,13 @@
 // One key, in place. The map's arrays are only read, and the live arrays are changed where they stand, so a key copies
 // nothing. The keys still to try are a stack that grows downwards, whose top is the next one.
-use crate::number;
-use crate::state::Sizes;
-use crate::state::State;
-use crate::step;
 use crate::turn;
 use crate::turn::InputResult;
 use keygraph::graph::Counts;
+use keygraph::index::Index;
+use keygraph::number;
+use keypairs::state::Sizes;
+use keypairs::state::State;
+use keypairs::step;
 ghost use mathlib.Core.Path.{_≡_};
 ghost use mathlib.Core.List.{List, _++_, _∷_};
 ghost use Prim.Native.Nat.{_-_, _≤_, _<_};
@@ -14,7 +15,8 @@ ghost use lib.ListN.{length, take, drop};
 ghost use Rattle.rules.specs.KeyLoop as key;
 ghost use Rattle.rules.specs.Calls.{graphNavigator};
 ghost use Rattle.keygraph.specs.View.{graphIn};
-ghost use Rattle.keymachine.specs.Views.{tablesOf, stateOf, keyOf};
+ghost use Rattle.keypairs.specs.Views.{tablesOf, stateOf};
+ghost use Rattle.keymachine.specs.Views.{linkNavigator, keyOf};
 
 // What a key came to. Refused, `refusal` and `rounds` are all that is promised of it and of the lent arrays.
 pub struct Handled {
@@ -58,11 +60,22 @@ fn rest_of(key: u16) -> u16
     key - 32768
 }
 
+// The index of a graph's edges, which is made once for all keys of a run.
+pub fn index_of(words: &[u64; 4128], counts: Counts) -> Index
+    requires { ⌜ length (now words) ≡ 4128 ⌝ }
+    ensures { λ r. ⌜ linkNavigator (now (words .entry)) counts (r .links) ≡ graphNavigator (graphIn (now (words .entry)) counts) ⌝ }
+{
+    let all = &words[..];
+    let edges = &all[0..2048];
+    Index::new(edges, counts.edges)
+}
+
 // The rounds of `input_key`: the outer loop goes over the stack, and the inner one tries one key until it is consumed,
 // needs more, or is unmapped.
 pub fn input_key<'a>(
     words: &'a [u64; 4128],
     counts: Counts,
+    links: &'a [u16; 2304],
     classes: &'a [u64],
     modes: &'a [u64],
     rules: &'a [u64],
@@ -75,10 +88,10 @@ pub fn input_key<'a>(
     first: u16,
     budget: u16,
 ) -> Handled
-    requires { ⌜ length (now words) ≡ 4128 ⌝ }
+    requires { ⌜ (length (now words) ≡ 4128) × (length (now links) ≡ 2304) ⌝ }
     requires { ⌜ (length (now queue) ≡ 256) × (length (now sequences) ≡ 520) × (length (now trail) ≡ 64) ⌝ }
     ensures { λ _. ⌜ (length (now (queue .exit)) ≡ 256) × (length (now (sequences .exit)) ≡ 520) × (length (now (trail .exit)) ≡ 64) ⌝ }
-    ensures { λ r. ⌜ keyOf r (tablesOf sizes (now (classes .entry)) (now (modes .entry)) (now (rules .entry))) (now (queue .exit)) (now (sequences .exit)) (now (trail .exit)) ≡ key.inputKey (graphNavigator (graphIn (now (words .entry)) counts)) (record { key = first; budget = budget }) (stateOf start (tablesOf sizes (now (classes .entry)) (now (modes .entry)) (now (rules .entry))) (now (queue .entry)) (now (sequences .entry)) (take trailed (now (trail .entry)))) ⌝ }
+    ensures { λ r. ⌜ keyOf r (tablesOf sizes (now (classes .entry)) (now (modes .entry)) (now (rules .entry))) (now (queue .exit)) (now (sequences .exit)) (now (trail .exit)) ≡ key.inputKey (linkNavigator (now (words .entry)) counts (now (links .entry))) (record { key = first; budget = budget }) (stateOf start (tablesOf sizes (now (classes .entry)) (now (modes .entry)) (now (rules .entry))) (now (queue .entry)) (now (sequences .entry)) (take trailed (now (trail .entry)))) ⌝ }
 {
     let mut stack = [0u16; 130];
     stack[129] = first;
@@ -94,7 +107,7 @@ pub fn input_key<'a>(
                 return refused(8, rounds, start);
             }
             rounds = rounds + 1;
-            let t = turn::turn(words, counts, classes, sizes.classes, s, key);
+            let t = turn::turn(words, counts, links, classes, sizes.classes, s, key);
             let turned = t.state;
             s = turned;
             let result = t.result;
@@ -169,10 +182,11 @@ pub fn input_key<'a>(
             }
         }
     }
+    let kept = n as u16;
     Handled {
         refusal: 0,
         rounds: rounds,
         state: s,
-        trailed: number::narrow(n),
+        trailed: kept,
     }
 }

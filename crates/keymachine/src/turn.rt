@@ -1,5 +1,4 @@
 // One round: a following of the graph, the event hook, and what is to be done at the place come to.
-use crate::state::State;
 use keygraph::edge;
 use keygraph::follow;
 use keygraph::follow::FollowResult;
@@ -8,14 +7,15 @@ use keygraph::node;
 use keygraph::node::Node;
 use keygraph::node::NodeAction;
 use keygraph::step::Step;
+use keypairs::state::State;
 ghost use mathlib.Core.Path.{_≡_};
 ghost use mathlib.Core.List.{List};
 ghost use lib.ListN.{length};
 ghost use Rattle.rules.specs.Values as v;
 ghost use Rattle.rules.specs.Graph as g;
 ghost use Rattle.rules.specs.Calls as c;
-ghost use Rattle.keyparts.specs.View.{nodeOf, stepOf, edgesOf, classesOf, graphBy};
-ghost use Rattle.keygraph.specs.View.{graphIn};
+ghost use Rattle.keyparts.specs.View.{nodeOf, stepOf, edgesOf, classesOf, graphBy, reached, followLinks};
+ghost use Rattle.keygraph.specs.View.{edgeWords, graphIn};
 ghost use Rattle.keymachine.specs.Views.{resultBy, Turns};
 
 // The step of `RunStep` and `RetryAfter` stands beside the result, since an enum here holds no array.
@@ -71,19 +71,20 @@ fn land(node: Node, to: u16) -> InputResult
 pub(crate) fn turn<'a>(
     words: &'a [u64; 4128],
     counts: Counts,
+    links: &'a [u16; 2304],
     classes: &'a [u64],
     entries: u16,
     s: State,
     key: u16,
 ) -> Turned
-    requires { ⌜ length (now words) ≡ 4128 ⌝ }
-    ensures { λ r. ⌜ Turns (c.turnBy (graphIn (now (words .entry)) counts) (s .place) (g.followEdge (classesOf (now (classes .entry)) entries) (graphIn (now (words .entry)) counts) (s .place) key)) key s r ⌝ }
+    requires { ⌜ (length (now words) ≡ 4128) × (length (now links) ≡ 2304) ⌝ }
+    ensures { λ r. ⌜ Turns (c.turnBy (graphIn (now (words .entry)) counts) (s .place) (followLinks (classesOf (now (classes .entry)) entries) (reached (edgeWords (now (words .entry))) (counts .edges)) (now (links .entry)) (s .place) key)) key s r ⌝ }
 {
     let all = &words[..];
     let edges = &all[0..2048];
     let heads = &all[2048..3088];
     let acts = &all[3088..4128];
-    let f = follow::follow_edge(edges, counts.edges, classes, entries, s.place, key);
+    let f = follow::follow_edge(edges, counts.edges, links, classes, entries, s.place, key);
     match f {
         FollowResult::Successor(event, to) => {
             let node = node::node_at(heads, acts, counts.nodes, to);

@@ -13,13 +13,14 @@ use Rattle.rules.specs.Values.{Pair, noContext}
 use Rattle.rules.specs.Numbers.{number}
 use Rattle.rules.specs.Tables.{Tables}
 use Rattle.rules.specs.Graph.{Graph}
-use Rattle.rules.specs.KeyLoop.{KeyResult, inputKey, freshShared, noTracker}
+use Rattle.rules.specs.KeyLoop.{Navigator, KeyResult, inputKey, freshShared, noTracker}
 use Rattle.rules.specs.KeyLoop as key
 use Rattle.rules.specs.Calls.{graphKind, graphNavigator, fresh, key-call}
 use Rattle.rules.specs.Run.{readKeys, pairBytes, emptied, playKeys}
-use Rattle.keymachine.specs.declared.state.State.{State}
+use Rattle.keypairs.specs.declared.state.State.{State}
 use Rattle.keymachine.specs.declared.key.Handled.{Handled}
-use Rattle.keymachine.specs.Views.{outcome, pairsOf, stateOf, keyOf, trackerOf, blocks}
+use Rattle.keypairs.specs.Views.{outcome, pairsOf, stateOf, trackerOf, blocks}
+use Rattle.keymachine.specs.Views.{keyOf}
 use Rattle.mapfile.specs.declared.play.Ran.{Ran}
 use Rattle.mapfile.specs.declared.play.Ran.the-variants.{Wrote, Refused}
 use Rattle.mapfile.specs.View.{laid, machineBy, ranOf, Ends}
@@ -93,9 +94,9 @@ module _ (g : Graph) (t : Tables) (budget room : ℕ) (keys out₀ : List ℕ) w
         never : refuse 9 ≡ accept (P .ks) → ⊥
         never h = let z : _≡_ {A = ℕ} 0 1 = cc in omega arith
 
-    -- a key
+    -- a key, followed by a navigator that is the graph's
     module _ (here : at < length keys) (v next : ℕ) (num : accept (v, drop next keys) ≡ number (drop at keys)) (r : Handled) (q sq tr : List ℕ)
-        (e : keyOf r t q sq tr ≡ inputKey (graphNavigator g) (record { key = v; budget = budget }) x) where
+        {nav : Navigator ℕ} (en : nav ≡ graphNavigator g) (e : keyOf r t q sq tr ≡ inputKey nav (record { key = v; budget = budget }) x) where
       abbrev y : key.State ℕ
       y = stateOf (r .state) t q sq (take (r .trailed) tr)
 
@@ -112,7 +113,7 @@ module _ (g : Graph) (t : Tables) (budget room : ℕ) (keys out₀ : List ℕ) w
       turned : after (outcome (r .refusal) y) ≡ whole ks₀
       unfolding playKeys key-call
       turned =
-          ap (λ k. after (k .result)) e
+          ap (λ k. after (k .result)) (e ∙ ap (λ n. inputKey n (record { key = v; budget = budget }) x) en)
           ∙ ap (λ ks. playKeys budget room ks (machineBy g x) (P .ps)) (key-first keys at here v next (P .ks) num (P .left) .2)
           ∙ P .same
 

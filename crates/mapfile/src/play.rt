@@ -16,10 +16,11 @@ ghost use mathlib.Core.List.{List, []};
 ghost use Prim.Native.Nat.{ℕ, _≤_, min};
 ghost use lib.ListN.{length};
 ghost use Rattle.rules.specs.Basics.{accept};
-ghost use Rattle.rules.specs.Calls.{graphKind, fresh};
+ghost use Rattle.rules.specs.Calls.{graphKind, graphNavigator, fresh};
 ghost use Rattle.rules.specs.Run.{readKeys, playKeys, run};
 ghost use Rattle.keygraph.specs.View.{graphIn};
-ghost use Rattle.keymachine.specs.Views.{tablesOf};
+ghost use Rattle.keypairs.specs.Views.{tablesOf};
+ghost use Rattle.keymachine.specs.Views.{linkNavigator};
 ghost use Rattle.mapfile.specs.View.{machineBy, Within, Ends};
 
 // How many bytes were written, or the number of the refusal.
@@ -33,6 +34,7 @@ fn play_keys<'a>(
     keys: &[u8],
     words: &'a [u64; 4128],
     counts: Counts,
+    links: &'a [u16; 2304],
     classes: &'a [u64],
     modes: &'a [u64],
     rules: &'a [u64],
@@ -41,7 +43,8 @@ fn play_keys<'a>(
     room: usize,
     budget: u16,
 ) -> Ran
-    requires { ⌜ (length (now words) ≡ 4128) × (room ≤ length (now out)) ⌝ }
+    requires { ⌜ (length (now words) ≡ 4128) × (length (now links) ≡ 2304) × (room ≤ length (now out)) ⌝ }
+    requires { ⌜ linkNavigator (now words) counts (now links) ≡ graphNavigator (graphIn (now words) counts) ⌝ }
     ensures { λ r. ⌜ Within room r ⌝ }
     ensures { λ r. ⌜ ((ks : List ℕ) → readKeys (now (keys .entry)) ≡ accept ks → Ends (playKeys budget room ks (machineBy (graphIn (now (words .entry)) counts) (fresh graphKind (tablesOf sizes (now (classes .entry)) (now (modes .entry)) (now (rules .entry))) .state)) []) r (now (out .entry)) (now (out .exit))) ⌝ }
 {
@@ -65,6 +68,7 @@ fn play_keys<'a>(
                 let k = key::input_key(
                     words,
                     counts,
+                    links,
                     classes,
                     modes,
                     rules,
@@ -101,7 +105,7 @@ fn play_keys<'a>(
     Ran::Wrote(written)
 }
 
-// The map is read whole before the keys, and all keys before the first is tried.
+// The map is read whole before the keys, and all keys before the first is tried; one index serves them all.
 pub(crate) fn play(map: &[u8], keys: &[u8], out: &mut [u8], room: usize, budget: u16) -> Ran
     requires { ⌜ room ≤ length (now out) ⌝ }
     ensures { λ r. ⌜ Within room r ⌝ }
@@ -116,10 +120,12 @@ pub(crate) fn play(map: &[u8], keys: &[u8], out: &mut [u8], room: usize, budget:
     if keys::check_keys(keys) {
         let counts = m.counts;
         let sizes = m.sizes;
+        let index = key::index_of(&m.words, counts);
         return play_keys(
             keys,
             &m.words,
             counts,
+            &index.links,
             &m.classes,
             &m.modes,
             &m.rules,

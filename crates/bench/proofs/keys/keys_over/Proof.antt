@@ -8,11 +8,11 @@ use Rattle.bench.proofs.keys.keys_over.Statement.{statement}
 use Rattle.bench.proofs.keys.keys_over.Tie as tie
 
 abbrev Inv-loop : tie.InvT-loop
-Inv-loop keys words counts classes modes rules sizes budget queue₀ sequences₀ trail₀ state₀ trailed₀ sum₀ i₀ queue sequences trail state trailed sum i =
+Inv-loop keys words counts links classes modes rules sizes budget queue₀ sequences₀ trail₀ state₀ trailed₀ sum₀ i₀ queue sequences trail state trailed sum i =
     ((length queue ≡ 256) × (length sequences ≡ 520) × (length trail ≡ 64)) × (i ≤ length keys)
 
 abbrev μ-loop : tie.MeasureT-loop
-μ-loop keys words counts classes modes rules sizes budget queue₀ sequences₀ trail₀ state₀ trailed₀ sum₀ i₀ queue sequences trail state trailed sum i =
+μ-loop keys words counts links classes modes rules sizes budget queue₀ sequences₀ trail₀ state₀ trailed₀ sum₀ i₀ queue sequences trail state trailed sum i =
     length keys - i
 
 loop-holds : tie.Need-loop-holds Inv-loop μ-loop

@@ -8,37 +8,39 @@ use lib.ListN.{length, take, drop, getD, set, replicate, length-set, length-take
 use borrow.Author.Needs.{needs}
 use Rattle.rules.specs.Basics.{Result}
 use Rattle.rules.specs.KeyLoop.{State, KeyResult, loop, inputKey}
-use Rattle.rules.specs.Calls.{graphNavigator}
 use Rattle.keyparts.specs.View.{stepOf, classesOf, edgesOf}
 use Rattle.keygraph.specs.View.{graphIn, edgeWords}
 use Rattle.keymachine.specs.declared.turn.InputResult.{InputResult}
-use Rattle.keymachine.specs.Views.{outcome, tablesOf, stateOf, resultBy, keyOf}
-use Rattle.keymachine.proofs.Lists.{take-min, outcome-ok, outcome-no}
+use Rattle.keypairs.specs.Views.{outcome, tablesOf, stateOf}
+use Rattle.keymachine.specs.Views.{linkNavigator, resultBy, keyOf}
+use Rattle.keypairs.proofs.Lists.{outcome-ok, outcome-no}
+use Rattle.keymachine.proofs.Lists.{take-min}
 use Rattle.keymachine.proofs.Stack.{weight, weight-most, drop-put}
+use Rattle.keymachine.proofs.Navigators.{step-same, unmapped-same}
 use Rattle.keymachine.proofs.Loop.{Round, Held, Lens, lens-zero, take-more, back-none, back-some, held-start, held-pop, held-done, held-from, held-anew, held-room, held-out, met-again, met-clear, met-consumed, met-more, met-full, met-big, met-unmapped, met-unmapped-refused, met-step, met-step-refused, met-retry, met-retry-refused}
 use Rattle.keymachine.proofs.key.input_key.Statement.{statement}
 use Rattle.keymachine.proofs.key.input_key.Tie as tie
 
 abbrev Inv-loop : tie.InvT-loop
-Inv-loop words counts classes modes rules sizes queue₀ sequences₀ trail₀ start trailed first budget stack₀ top₀ s₀ n₀ rounds₀ key₀ queue sequences trail stack top s n rounds key =
-    Held (graphNavigator (graphIn words counts)) budget
-    (loop (graphNavigator (graphIn words counts)) (budget - rounds₀) rounds₀ (key₀ ∷ drop top₀ stack₀) (stateOf s₀ (tablesOf sizes classes modes rules) queue₀ sequences₀ (take n₀ trail₀)))
+Inv-loop words counts links classes modes rules sizes queue₀ sequences₀ trail₀ start trailed first budget stack₀ top₀ s₀ n₀ rounds₀ key₀ queue sequences trail stack top s n rounds key =
+    Held (linkNavigator words counts links) budget
+    (loop (linkNavigator words counts links) (budget - rounds₀) rounds₀ (key₀ ∷ drop top₀ stack₀) (stateOf s₀ (tablesOf sizes classes modes rules) queue₀ sequences₀ (take n₀ trail₀)))
     stack top rounds (key ∷ drop top stack) (stateOf s (tablesOf sizes classes modes rules) queue sequences (take n trail))
     × Lens queue sequences trail n × (rounds₀ ≤ rounds)
 
 abbrev μ-loop : tie.MeasureT-loop
-μ-loop words counts classes modes rules sizes queue₀ sequences₀ trail₀ start trailed first budget stack₀ top₀ s₀ n₀ rounds₀ key₀ queue sequences trail stack top s n rounds key =
+μ-loop words counts links classes modes rules sizes queue₀ sequences₀ trail₀ start trailed first budget stack₀ top₀ s₀ n₀ rounds₀ key₀ queue sequences trail stack top s n rounds key =
     budget - rounds
 
 abbrev Inv-keys : tie.InvT-keys
-Inv-keys words counts classes modes rules sizes queue₀ sequences₀ trail₀ start trailed first budget stack₀ top₀ s₀ n₀ rounds₀ queue sequences trail stack top s n rounds =
-    Held (graphNavigator (graphIn words counts)) budget
-    (inputKey (graphNavigator (graphIn words counts)) (record { key = first; budget = budget }) (stateOf start (tablesOf sizes classes modes rules) queue₀ sequences₀ (take trailed trail₀)))
+Inv-keys words counts links classes modes rules sizes queue₀ sequences₀ trail₀ start trailed first budget stack₀ top₀ s₀ n₀ rounds₀ queue sequences trail stack top s n rounds =
+    Held (linkNavigator words counts links) budget
+    (inputKey (linkNavigator words counts links) (record { key = first; budget = budget }) (stateOf start (tablesOf sizes classes modes rules) queue₀ sequences₀ (take trailed trail₀)))
     stack top rounds (drop top stack) (stateOf s (tablesOf sizes classes modes rules) queue sequences (take n trail))
     × Lens queue sequences trail n
 
 abbrev μ-keys : tie.MeasureT-keys
-μ-keys words counts classes modes rules sizes queue₀ sequences₀ trail₀ start trailed first budget stack₀ top₀ s₀ n₀ rounds₀ queue sequences trail stack top s n rounds =
+μ-keys words counts links classes modes rules sizes queue₀ sequences₀ trail₀ start trailed first budget stack₀ top₀ s₀ n₀ rounds₀ queue sequences trail stack top s n rounds =
     budget - rounds
 
 array-write-stack : tie.Need-array-write-stack Inv-loop μ-loop Inv-keys μ-keys
@@ -49,10 +51,10 @@ least-requires c κs = search needs
 
 keys-holds : tie.Need-keys-holds Inv-loop μ-loop Inv-keys μ-keys
 keys-holds c = let a = c .before .before .before .before .args in let p = c .before .before .before .before .pre in (
-  rw (take-min (a .trailed) 64 (a .trail .now) (c .least .result) (p .1 .2) (c .least .ensures .0))
-      (held-start (graphNavigator (graphIn (a .words .now) (a .counts))) (a .budget) (a .first) (stateOf (a .start) (tablesOf (a .sizes) (a .classes .now) (a .modes .now) (a .rules .now)) (a .queue .now) (a .sequences .now) (take (a .trailed) (a .trail .now))) (replicate 130 0) refl
+  rw (take-min (a .trailed) 64 (a .trail .now) (c .least .result) (p .1 .2) (c .least .ensures))
+      (held-start (linkNavigator (a .words .now) (a .counts) (a .links .now)) (a .budget) (a .first) (stateOf (a .start) (tablesOf (a .sizes) (a .classes .now) (a .modes .now) (a .rules .now)) (a .queue .now) (a .sequences .now) (take (a .trailed) (a .trail .now))) (replicate 130 0) refl
       (omega (arith, weight-most (a .trailed) (a .trail .now), length-take (a .trailed) (a .trail .now)))),
-  record { queues = p .1 .0; tracked = p .1 .1; trails = p .1 .2; room = c .least .ensures .1 },
+  record { queues = p .1 .0; tracked = p .1 .1; trails = p .1 .2; room = omega (arith, c .least .ensures) },
 )
 
 mul-key : tie.Need-mul-key Inv-loop μ-loop Inv-keys μ-keys
@@ -68,8 +70,8 @@ add-top c = search needs
 made : (c : tie.After-what Inv-loop μ-loop Inv-keys μ-keys) (y : InputResult) → c .before .before .turn .result .result ≡ y
     → let a = c .before .before .before .before .before .before .before .before .before .before .before .args in let L = c .before .before .before .before .loop in let u = c .before .before .turn in
     let t = tablesOf (a .sizes) (a .classes .now) (a .modes .now) (a .rules .now) in
-    Round (graphNavigator (graphIn (a .words .now) (a .counts))) (L .key) (stateOf (L .s) t (L .queue) (L .sequences) (take (L .n) (L .trail))) (stateOf (u .result .state) t (L .queue) (L .sequences) (take (L .n) (L .trail))) (resultBy y (stepOf (u .result .step)))
-unfolding graphNavigator
+    Round (linkNavigator (a .words .now) (a .counts) (a .links .now)) (L .key) (stateOf (L .s) t (L .queue) (L .sequences) (take (L .n) (L .trail))) (stateOf (u .result .state) t (L .queue) (L .sequences) (take (L .n) (L .trail))) (resultBy y (stepOf (u .result .step)))
+unfolding linkNavigator
 made c y e = let a = c .before .before .before .before .before .before .before .before .before .before .before .args in let L = c .before .before .before .before .loop in let u = c .before .before .turn in
     record {
       result = sym (u .ensures .result) ∙ ap (λ (z : InputResult). resultBy z (stepOf (u .result .step))) e;
@@ -79,7 +81,7 @@ made c y e = let a = c .before .before .before .before .before .before .before .
 
 -- the key in hand and the rest of the stack are the stack that the outer loop's turn began with
 popped : (c : tie.At-loop Inv-loop μ-loop Inv-keys μ-keys) → let a = c .before .before .before .before .before .before .before .args in let O = c .before .before .keys in
-    let t = tablesOf (a .sizes) (a .classes .now) (a .modes .now) (a .rules .now) in let nav = graphNavigator (graphIn (a .words .now) (a .counts)) in
+    let t = tablesOf (a .sizes) (a .classes .now) (a .modes .now) (a .rules .now) in let nav = linkNavigator (a .words .now) (a .counts) (a .links .now) in
     inputKey nav (record { key = a .first; budget = a .budget }) (stateOf (a .start) t (a .queue .now) (a .sequences .now) (take (a .trailed) (a .trail .now)))
     ≡ loop nav (a .budget - O .rounds) (O .rounds) (getD (O .stack) (O .top) 0 ∷ drop (O .top + 1) (O .stack)) (stateOf (O .s) t (O .queue) (O .sequences) (take (O .n) (O .trail)))
 popped c = held-pop (c .before .before .keys .inv .0) (c .before .keys-test .taken) .same
@@ -198,7 +200,7 @@ returns-3 c = let a = c .before .before .before .before .before .before .before 
   (r .ensures .0 .0, r .ensures .0 .1, L .inv .1 .trails),
   rw (c .refused3 .ensures)
       (ap (λ (y : Result (State ℕ)). record { rounds = L .rounds + 1; result = y }) (outcome-no (r .result .refusal) _ (c .before .if4 .taken))
-      ∙ sym (popped (c .before .before .before .before .before .before .before .before .before .before .before .before .before) ∙ met-unmapped-refused (L .inv .0) (c .before .before .before .before .before .before .before .before .before .before .before .before .if1 .left) (made (c .before .before .before .before .before .before .before .before .before) _ (c .before .before .before .before .before .before .before .enum-told5 .given .1)) (c .before .before .before .before .before .before .if3 .left) (r .result .refusal) (sym (outcome-no (r .result .refusal) _ (c .before .if4 .taken)) ∙ r .ensures .1 (classesOf (a .classes .now) (a .sizes .classes)) (edgesOf (edgeWords (a .words .now)) (a .counts .edges)) []))),
+      ∙ sym (popped (c .before .before .before .before .before .before .before .before .before .before .before .before .before) ∙ met-unmapped-refused (L .inv .0) (c .before .before .before .before .before .before .before .before .before .before .before .before .if1 .left) (made (c .before .before .before .before .before .before .before .before .before) _ (c .before .before .before .before .before .before .before .enum-told5 .given .1)) (c .before .before .before .before .before .before .if3 .left) (r .result .refusal) (sym (outcome-no (r .result .refusal) _ (c .before .if4 .taken)) ∙ r .ensures .1 (classesOf (a .classes .now) (a .sizes .classes)) (edgesOf (edgeWords (a .words .now)) (a .counts .edges)) [] ∙ unmapped-same (a .words .now) (a .counts) (a .links .now) _))),
 )
 
 keys-less-3 : tie.Need-keys-less-3 Inv-loop μ-loop Inv-keys μ-keys
@@ -206,7 +208,7 @@ keys-less-3 c = search needs
 
 keys-again-3 : tie.Need-keys-again-3 Inv-loop μ-loop Inv-keys μ-keys
 keys-again-3 c = let a = c .before .before .before .before .before .before .before .before .before .before .before .before .before .before .before .before .before .before .before .before .before .args in let L = c .before .before .before .before .before .before .before .before .before .before .before .before .before .before .loop in let r = c .before .before .before .before .unmapped in (
-  held-from _ (popped (c .before .before .before .before .before .before .before .before .before .before .before .before .before .before)) (met-unmapped (L .inv .0) (c .before .before .before .before .before .before .before .before .before .before .before .before .before .if1 .left) (made (c .before .before .before .before .before .before .before .before .before .before) _ (c .before .before .before .before .before .before .before .before .enum-told5 .given .1)) (c .before .before .before .before .before .before .before .if3 .left) _ (sym (outcome-ok (r .result .refusal) _ (c .before .before .if4 .left)) ∙ r .ensures .1 (classesOf (a .classes .now) (a .sizes .classes)) (edgesOf (edgeWords (a .words .now)) (a .counts .edges)) []) refl
+  held-from _ (popped (c .before .before .before .before .before .before .before .before .before .before .before .before .before .before)) (met-unmapped (L .inv .0) (c .before .before .before .before .before .before .before .before .before .before .before .before .before .if1 .left) (made (c .before .before .before .before .before .before .before .before .before .before) _ (c .before .before .before .before .before .before .before .before .enum-told5 .given .1)) (c .before .before .before .before .before .before .before .if3 .left) _ (sym (outcome-ok (r .result .refusal) _ (c .before .before .if4 .left)) ∙ r .ensures .1 (classesOf (a .classes .now) (a .sizes .classes)) (edgesOf (edgeWords (a .words .now)) (a .counts .edges)) [] ∙ unmapped-same (a .words .now) (a .counts) (a .links .now) _) refl
       (L .stack) (L .top) (L .inv .0 .long) (L .inv .0 .low) (back-none (L .trail) (drop (L .top) (L .stack)) (L .n) (L .key) (c .if5 .taken))),
   record { queues = r .ensures .0 .0; tracked = r .ensures .0 .1; trails = L .inv .1 .trails; room = search needs },
 )
@@ -222,7 +224,7 @@ keys-less-4 c = search needs
 
 keys-again-4 : tie.Need-keys-again-4 Inv-loop μ-loop Inv-keys μ-keys
 keys-again-4 c = let a = c .before .before .before .before .before .before .before .before .before .before .before .before .before .before .before .before .before .before .before .before .before .before .before .before .args in let L = c .before .before .before .before .before .before .before .before .before .before .before .before .before .before .before .before .before .loop in let r = c .before .before .before .before .before .before .before .unmapped in (
-  held-from _ (popped (c .before .before .before .before .before .before .before .before .before .before .before .before .before .before .before .before .before)) (met-unmapped (L .inv .0) (c .before .before .before .before .before .before .before .before .before .before .before .before .before .before .before .before .if1 .left) (made (c .before .before .before .before .before .before .before .before .before .before .before .before .before) _ (c .before .before .before .before .before .before .before .before .before .before .before .enum-told5 .given .1)) (c .before .before .before .before .before .before .before .before .before .before .if3 .left) _ (sym (outcome-ok (r .result .refusal) _ (c .before .before .before .before .before .if4 .left)) ∙ r .ensures .1 (classesOf (a .classes .now) (a .sizes .classes)) (edgesOf (edgeWords (a .words .now)) (a .counts .edges)) []) refl
+  held-from _ (popped (c .before .before .before .before .before .before .before .before .before .before .before .before .before .before .before .before .before)) (met-unmapped (L .inv .0) (c .before .before .before .before .before .before .before .before .before .before .before .before .before .before .before .before .if1 .left) (made (c .before .before .before .before .before .before .before .before .before .before .before .before .before) _ (c .before .before .before .before .before .before .before .before .before .before .before .enum-told5 .given .1)) (c .before .before .before .before .before .before .before .before .before .before .if3 .left) _ (sym (outcome-ok (r .result .refusal) _ (c .before .before .before .before .before .if4 .left)) ∙ r .ensures .1 (classesOf (a .classes .now) (a .sizes .classes)) (edgesOf (edgeWords (a .words .now)) (a .counts .edges)) [] ∙ unmapped-same (a .words .now) (a .counts) (a .links .now) _) refl
       (c .put-back .last .0) (L .top - L .n) (c .put-back .ensures .0) (omega (arith, L .inv .0 .low)) (c .put-back .ensures .1 ∙ back-some (L .trail) (drop (L .top) (L .stack)) (L .n) (L .key) (L .inv .1 .trails) (c .before .before .before .if5 .left))),
   record { queues = r .ensures .0 .0; tracked = r .ensures .0 .1; trails = L .inv .1 .trails; room = search needs },
 )
@@ -241,7 +243,7 @@ returns-4 c = let a = c .before .before .before .before .before .before .before 
   (r .ensures .0 .0, r .ensures .0 .1, L .inv .1 .trails),
   rw (c .refused4 .ensures)
       (ap (λ (y : Result (State ℕ)). record { rounds = L .rounds + 1; result = y }) (outcome-no (r .result .refusal) _ (c .before .if6 .taken))
-      ∙ sym (popped (c .before .before .before .before .before .before .before .before .before .before .before .before) ∙ met-step-refused (L .inv .0) (c .before .before .before .before .before .before .before .before .before .before .before .if1 .left) (made (c .before .before .before .before .before .before .before .before) _ (c .before .before .before .before .before .before .enum-told6 .given .1)) (r .result .refusal) (sym (outcome-no (r .result .refusal) _ (c .before .if6 .taken)) ∙ r .ensures .1 (classesOf (a .classes .now) (a .sizes .classes)) (graphIn (a .words .now) (a .counts)) []))),
+      ∙ sym (popped (c .before .before .before .before .before .before .before .before .before .before .before .before) ∙ met-step-refused (L .inv .0) (c .before .before .before .before .before .before .before .before .before .before .before .if1 .left) (made (c .before .before .before .before .before .before .before .before) _ (c .before .before .before .before .before .before .enum-told6 .given .1)) (r .result .refusal) (sym (outcome-no (r .result .refusal) _ (c .before .if6 .taken)) ∙ r .ensures .1 (classesOf (a .classes .now) (a .sizes .classes)) (graphIn (a .words .now) (a .counts)) [] ∙ step-same (a .words .now) (a .counts) (a .links .now) _ _))),
 )
 
 keys-less-5 : tie.Need-keys-less-5 Inv-loop μ-loop Inv-keys μ-keys
@@ -249,7 +251,7 @@ keys-less-5 c = search needs
 
 keys-again-5 : tie.Need-keys-again-5 Inv-loop μ-loop Inv-keys μ-keys
 keys-again-5 c = let a = c .before .before .before .before .before .before .before .before .before .before .before .before .before .before .before .before .before .before .before .args in let L = c .before .before .before .before .before .before .before .before .before .before .before .before .loop in let r = c .before .before .before .step in (
-  held-from _ (popped (c .before .before .before .before .before .before .before .before .before .before .before .before)) (met-step (L .inv .0) (c .before .before .before .before .before .before .before .before .before .before .before .if1 .left) (made (c .before .before .before .before .before .before .before .before) _ (c .before .before .before .before .before .before .enum-told6 .given .1)) _ (sym (outcome-ok (r .result .refusal) _ (c .before .if6 .left)) ∙ r .ensures .1 (classesOf (a .classes .now) (a .sizes .classes)) (graphIn (a .words .now) (a .counts)) []) refl),
+  held-from _ (popped (c .before .before .before .before .before .before .before .before .before .before .before .before)) (met-step (L .inv .0) (c .before .before .before .before .before .before .before .before .before .before .before .if1 .left) (made (c .before .before .before .before .before .before .before .before) _ (c .before .before .before .before .before .before .enum-told6 .given .1)) _ (sym (outcome-ok (r .result .refusal) _ (c .before .if6 .left)) ∙ r .ensures .1 (classesOf (a .classes .now) (a .sizes .classes)) (graphIn (a .words .now) (a .counts)) [] ∙ step-same (a .words .now) (a .counts) (a .links .now) _ _) refl),
   record { queues = r .ensures .0 .0; tracked = r .ensures .0 .1; trails = L .inv .1 .trails; room = search needs },
 )
 
@@ -267,7 +269,7 @@ returns-5 c = let a = c .before .before .before .before .before .before .before 
   (r .ensures .0 .0, r .ensures .0 .1, L .inv .1 .trails),
   rw (c .refused5 .ensures)
       (ap (λ (y : Result (State ℕ)). record { rounds = L .rounds + 1; result = y }) (outcome-no (r .result .refusal) _ (c .before .if7 .taken))
-      ∙ sym (popped (c .before .before .before .before .before .before .before .before .before .before .before .before) ∙ met-retry-refused (L .inv .0) (c .before .before .before .before .before .before .before .before .before .before .before .if1 .left) (made (c .before .before .before .before .before .before .before .before) _ (c .before .before .before .before .before .before .enum-told7 .given .1)) (r .result .refusal) (sym (outcome-no (r .result .refusal) _ (c .before .if7 .taken)) ∙ r .ensures .1 (classesOf (a .classes .now) (a .sizes .classes)) (graphIn (a .words .now) (a .counts)) []))),
+      ∙ sym (popped (c .before .before .before .before .before .before .before .before .before .before .before .before) ∙ met-retry-refused (L .inv .0) (c .before .before .before .before .before .before .before .before .before .before .before .if1 .left) (made (c .before .before .before .before .before .before .before .before) _ (c .before .before .before .before .before .before .enum-told7 .given .1)) (r .result .refusal) (sym (outcome-no (r .result .refusal) _ (c .before .if7 .taken)) ∙ r .ensures .1 (classesOf (a .classes .now) (a .sizes .classes)) (graphIn (a .words .now) (a .counts)) [] ∙ step-same (a .words .now) (a .counts) (a .links .now) _ _))),
 )
 
 loop-less-4 : tie.Need-loop-less-4 Inv-loop μ-loop Inv-keys μ-keys
@@ -275,16 +277,16 @@ loop-less-4 c = search needs
 
 loop-again-4 : tie.Need-loop-again-4 Inv-loop μ-loop Inv-keys μ-keys
 loop-again-4 c = let a = c .before .before .before .before .before .before .before .before .before .before .before .before .before .before .before .before .before .before .before .args in let L = c .before .before .before .before .before .before .before .before .before .before .before .before .loop in let r = c .before .before .before .step2 in (
-  met-retry (L .inv .0) (c .before .before .before .before .before .before .before .before .before .before .before .if1 .left) (made (c .before .before .before .before .before .before .before .before) _ (c .before .before .before .before .before .before .enum-told7 .given .1)) _ (sym (outcome-ok (r .result .refusal) _ (c .before .if7 .left)) ∙ r .ensures .1 (classesOf (a .classes .now) (a .sizes .classes)) (graphIn (a .words .now) (a .counts)) []) refl,
+  met-retry (L .inv .0) (c .before .before .before .before .before .before .before .before .before .before .before .if1 .left) (made (c .before .before .before .before .before .before .before .before) _ (c .before .before .before .before .before .before .enum-told7 .given .1)) _ (sym (outcome-ok (r .result .refusal) _ (c .before .if7 .left)) ∙ r .ensures .1 (classesOf (a .classes .now) (a .sizes .classes)) (graphIn (a .words .now) (a .counts)) [] ∙ step-same (a .words .now) (a .counts) (a .links .now) _ _) refl,
   record { queues = r .ensures .0 .0; tracked = r .ensures .0 .1; trails = L .inv .1 .trails; room = search needs },
   search needs,
 )
 
-narrow-requires : tie.Need-narrow-requires Inv-loop μ-loop Inv-keys μ-keys
-narrow-requires c κs = search needs
+cast-kept : tie.Need-cast-kept Inv-loop μ-loop Inv-keys μ-keys
+cast-kept c = omega (arith, c .before .keys .inv .1 .room)
 
 returns-6 : tie.Need-returns-6 Inv-loop μ-loop Inv-keys μ-keys
-returns-6 c = let O = c .before .before .keys in ((O .inv .1 .queues, O .inv .1 .tracked, O .inv .1 .trails), rw (c .narrow .ensures) (sym (held-done (O .inv .0) (search needs))))
+returns-6 c = let O = c .before .keys in ((O .inv .1 .queues, O .inv .1 .tracked, O .inv .1 .trails), sym (held-done (O .inv .0) (search needs)))
 
 pub input-key-spec : {M : Type 1} → statement M
 input-key-spec =
@@ -350,5 +352,5 @@ input-key-spec =
     returns-5
     loop-less-4
     loop-again-4
-    narrow-requires
+    cast-kept
     returns-6)

@@ -1,9 +1,9 @@
 -- The three ways of following are the clauses of `turnBy`, and the node that was come to tells the rest.
 use mathlib.Core.Path.{_≡_, refl, sym, ap, _∙_}
-use Rattle.rules.specs.Graph.{followEdge}
-use Rattle.keyparts.specs.View.{nodeOf, eventOf, followOf, nodesOf, edgesOf, classesOf}
+use Rattle.keyparts.specs.View.{nodeOf, eventOf, followOf, nodesOf, edgesOf, classesOf, reached, followLinks}
 use Rattle.keygraph.specs.View.{graphIn, edgeWords, headWords, actWords}
-use Rattle.keymachine.specs.Views.{sharedOf, resultBy, contextOf}
+use Rattle.keypairs.specs.Views.{sharedOf, contextOf}
+use Rattle.keymachine.specs.Views.{resultBy}
 use Rattle.keymachine.proofs.Rounds.{by-result, by-state, falls-result, falls-state, stuck-result, stuck-state}
 use borrow.Author.Needs.{needs}
 use Rattle.keymachine.proofs.turn.turn.Statement.{statement}
@@ -54,8 +54,8 @@ event-requires c κs = search needs
 returns : tie.Need-returns
 unfolding edgeWords headWords actWords
 returns c = let a = c .before .before .before .before .before .before .before .before .before .before .before .before .before .before .args in let g = graphIn (a .words .now) (a .counts) in let ns = nodesOf (headWords (a .words .now)) (actWords (a .words .now)) (a .counts .nodes) in
-    let f = followEdge (classesOf (a .classes .now) (a .entries)) g (a .s .place) (a .key) in
-    let e = sym (ap followOf (c .before .before .before .before .before .before .f .given .1)) ∙ c .before .before .before .before .before .before .before .before .follow-edge .ensures ns in
+    let f = followLinks (classesOf (a .classes .now) (a .entries)) (reached (edgeWords (a .words .now)) (a .counts .edges)) (a .links .now) (a .s .place) (a .key) in
+    let e = sym (ap followOf (c .before .before .before .before .before .before .f .given .1)) ∙ c .before .before .before .before .before .before .before .before .follow-edge .ensures in
     record {
       result = by-result g (a .s .place) f (eventOf (c .before .before .before .before .before .before .f .given .0 .0)) (c .before .before .before .before .before .before .f .given .0 .1 .0) e _ (nodeOf (c .before .before .before .before .node-at .result)) (c .before .before .before .before .node-at .ensures (edgesOf (edgeWords (a .words .now)) (a .counts .edges))) (c .before .before .before .arrive .ensures ns (eventOf (c .before .before .before .before .before .before .f .given .0 .0)));
       state = λ t q sq tr. by-state g (a .s .place) f (eventOf (c .before .before .before .before .before .before .f .given .0 .0)) (c .before .before .before .before .before .before .f .given .0 .1 .0) e (a .key) (contextOf (c .event .result)) (sharedOf (a .s) t q sq tr) (c .event .ensures);
@@ -73,8 +73,8 @@ land-requires c κs = search needs
 returns-2 : tie.Need-returns-2
 unfolding edgeWords headWords actWords
 returns-2 c = let a = c .before .before .before .before .before .before .before .before .before .before .before .before .before .args in let g = graphIn (a .words .now) (a .counts) in let ns = nodesOf (headWords (a .words .now)) (actWords (a .words .now)) (a .counts .nodes) in
-    let f = followEdge (classesOf (a .classes .now) (a .entries)) g (a .s .place) (a .key) in
-    let e = sym (ap followOf (c .before .before .before .before .before .f2 .given .1)) ∙ c .before .before .before .before .before .before .before .follow-edge .ensures ns in
+    let f = followLinks (classesOf (a .classes .now) (a .entries)) (reached (edgeWords (a .words .now)) (a .counts .edges)) (a .links .now) (a .s .place) (a .key) in
+    let e = sym (ap followOf (c .before .before .before .before .before .f2 .given .1)) ∙ c .before .before .before .before .before .before .before .follow-edge .ensures in
     record {
       result = falls-result g (a .s .place) f (c .before .before .before .before .before .f2 .given .0 .0) e _ (nodeOf (c .before .before .before .node-at2 .result)) (c .before .before .before .node-at2 .ensures (edgesOf (edgeWords (a .words .now)) (a .counts .edges))) (c .before .before .land .ensures);
       state = λ t q sq tr. falls-state g (a .s .place) f (c .before .before .before .before .before .f2 .given .0 .0) e (a .key) (sharedOf (a .s) t q sq tr);
@@ -89,8 +89,8 @@ default-requires c κs = search needs
 returns-3 : tie.Need-returns-3
 unfolding edgeWords headWords actWords
 returns-3 c = let a = c .before .before .before .before .before .before .before .before .before .args in let g = graphIn (a .words .now) (a .counts) in let ns = nodesOf (headWords (a .words .now)) (actWords (a .words .now)) (a .counts .nodes) in
-    let f = followEdge (classesOf (a .classes .now) (a .entries)) g (a .s .place) (a .key) in
-    let e = sym (ap followOf (c .before .enum-told .given .1)) ∙ c .before .before .before .follow-edge .ensures ns in
+    let f = followLinks (classesOf (a .classes .now) (a .entries)) (reached (edgeWords (a .words .now)) (a .counts .edges)) (a .links .now) (a .s .place) (a .key) in
+    let e = sym (ap followOf (c .before .enum-told .given .1)) ∙ c .before .before .before .follow-edge .ensures in
     record {
       result = stuck-result g (a .s .place) f e;
       state = λ t q sq tr. stuck-state g (a .s .place) f e (a .key) (sharedOf (a .s) t q sq tr);

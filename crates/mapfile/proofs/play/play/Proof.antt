@@ -27,6 +27,9 @@ enum-told c = search needs
 check-keys-requires : tie.Need-check-keys-requires
 check-keys-requires c κs = search needs
 
+index-of-requires : tie.Need-index-of-requires
+index-of-requires c κs = search needs
+
 play-keys-requires : tie.Need-play-keys-requires
 play-keys-requires c κs = search needs
 
@@ -35,11 +38,11 @@ same-length c = search needs
 
 returns-2 : tie.Need-returns-2
 returns-2 c =
-    let a = c .before .before .before .before .before .before .before .before .before .before .before .before .before .before .before .before .before .before .before .before .before .before .args in
-    let m = c .before .before .before .before .before .before .before .before .before .before .before .before .before .before .before .before .before .before .read-map in
+    let a = c .before .before .before .before .before .before .before .before .before .before .before .before .before .before .before .before .before .before .before .before .before .before .before .before .before .before .before .args in
+    let m = c .before .before .before .before .before .before .before .before .before .before .before .before .before .before .before .before .before .before .before .before .before .before .before .read-map in
     let p = c .before .before .play-keys in
-    let k : Checked true (readKeys (a .keys .now)) = subst (λ b. Checked b (readKeys (a .keys .now))) (c .before .before .before .before .before .before .before .before .before .before .before .before .before .before .if1 .taken) (c .before .before .before .before .before .before .before .before .before .before .before .before .before .before .before .check-keys .ensures) in
-    (p .ensures .0, λ lent e. subst (λ x. Ends x (p .result) (a .out .now) (p .last .1 .1 .1 .1 .1 .1 .1 .0)) (ap (λ n. playKeys (a .budget) n (k .0) (mapOf (m .result)) []) e ∙ sym (plays (a .map .now) (a .keys .now) (a .budget) lent (m .result .answer) (mapOf (m .result)) (m .ensures) (c .before .before .before .before .before .before .before .before .before .before .before .before .before .before .before .before .enum-told .given .1) (k .0) (k .1))) (p .ensures .1 (k .0) (k .1)))
+    let k : Checked true (readKeys (a .keys .now)) = subst (λ b. Checked b (readKeys (a .keys .now))) (c .before .before .before .before .before .before .before .before .before .before .before .before .before .before .before .before .before .before .before .if1 .taken) (c .before .before .before .before .before .before .before .before .before .before .before .before .before .before .before .before .before .before .before .before .check-keys .ensures) in
+    (p .ensures .0, λ lent e. subst (λ x. Ends x (p .result) (a .out .now) (p .last .1 .1 .1 .1 .1 .1 .1 .1 .0)) (ap (λ n. playKeys (a .budget) n (k .0) (mapOf (m .result)) []) e ∙ sym (plays (a .map .now) (a .keys .now) (a .budget) lent (m .result .answer) (mapOf (m .result)) (m .ensures) (c .before .before .before .before .before .before .before .before .before .before .before .before .before .before .before .before .before .before .before .before .before .enum-told .given .1) (k .0) (k .1))) (p .ensures .1 (k .0) (k .1)))
 
 returns-3 : tie.Need-returns-3
 returns-3 c =
@@ -56,6 +59,7 @@ play-spec =
     returns
     enum-told
     check-keys-requires
+    index-of-requires
     play-keys-requires
     same-length
     returns-2

@@ -9,7 +9,7 @@ use lib.ListN.{length, take}
 use Rattle.rules.specs.Basics.{accept}
 use Rattle.rules.specs.Run.{readKeys}
 use Rattle.keygraph.specs.View.{graphIn}
-use Rattle.keymachine.specs.Views.{tablesOf, stateOf}
+use Rattle.keypairs.specs.Views.{tablesOf, stateOf}
 use Rattle.mapfile.specs.View.{readOf}
 use Rattle.mapfile.proofs.KeyBytes.{onward}
 use Rattle.mapfile.proofs.Playing.{Playing, starts, played-all, played-bad, key-refused, key-full, key-played}
@@ -17,12 +17,12 @@ use Rattle.mapfile.proofs.play.play_keys.Statement.{statement}
 use Rattle.mapfile.proofs.play.play_keys.Tie as tie
 
 abbrev Inv-loop : tie.InvT-loop
-Inv-loop keys words counts classes modes rules sizes out₀ room budget queue₀ sequences₀ trail₀ state₀ trailed₀ written₀ at₀ out queue sequences trail state trailed written at =
+Inv-loop keys words counts links classes modes rules sizes out₀ room budget queue₀ sequences₀ trail₀ state₀ trailed₀ written₀ at₀ out queue sequences trail state trailed written at =
     (written ≤ room) × (length out ≡ length out₀) × ((length queue ≡ 256) × (length sequences ≡ 520) × (length trail ≡ 64))
     × ((ks : List ℕ) → readKeys keys ≡ accept ks → Playing (graphIn words counts) (tablesOf sizes classes modes rules) budget room keys out₀ ks at written (stateOf state (tablesOf sizes classes modes rules) queue sequences (take trailed trail)) out)
 
 abbrev μ-loop : tie.MeasureT-loop
-μ-loop keys words counts classes modes rules sizes out₀ room budget queue₀ sequences₀ trail₀ state₀ trailed₀ written₀ at₀ out queue sequences trail state trailed written at = length keys - at
+μ-loop keys words counts links classes modes rules sizes out₀ room budget queue₀ sequences₀ trail₀ state₀ trailed₀ written₀ at₀ out queue sequences trail state trailed written at = length keys - at
 
 loop-holds : tie.Need-loop-holds Inv-loop μ-loop
 loop-holds c =
@@ -55,7 +55,7 @@ enum-known-r : tie.Need-enum-known-r Inv-loop μ-loop
 enum-known-r c = search needs
 
 input-key-requires : tie.Need-input-key-requires Inv-loop μ-loop
-input-key-requires c κs = (c .before .before .before .before .before .before .before .before .before .before .before .before .before .before .pre .0, c .before .before .before .before .before .before .before .before .loop .inv .2)
+input-key-requires c κs = ((c .before .before .before .before .before .before .before .before .before .before .before .before .before .before .pre .0 .0, c .before .before .before .before .before .before .before .before .before .before .before .before .before .before .pre .0 .1), c .before .before .before .before .before .before .before .before .loop .inv .2)
 
 same-length-2 : tie.Need-same-length-2 Inv-loop μ-loop
 same-length-2 c = omega (arith, c .before .before .before .before .before .before .before .before .before .before .before .loop .inv .1)
@@ -72,10 +72,10 @@ returns-2 c =
     let next = c .before .before .before .before .before .before .before .r .given .0 .1 .0 in
     let number = sym (ap (readOf K) (c .before .before .before .before .before .before .before .r .given .1)) ∙ c .before .before .before .before .before .before .before .before .before .read-number .ensures in
     let k = c .before .before .input-key in
-    let q = k .last .1 .1 .1 .1 .1 .1 .0 in
-    let sq = k .last .1 .1 .1 .1 .1 .1 .1 .0 in
-    let tr = k .last .1 .1 .1 .1 .1 .1 .1 .1 .0 in
-    (tt, λ ks h. key-refused G T (a .budget) (a .room) K (a .out .now) ks (L .at) (L .written) x (L .out) (L .inv .3 ks h) (c .before .before .before .before .before .before .before .before .before .before .loop-test .taken) v next number (k .result) q sq tr (k .ensures .1) _ (c .if1 .taken))
+    let q = k .last .1 .1 .1 .1 .1 .1 .1 .0 in
+    let sq = k .last .1 .1 .1 .1 .1 .1 .1 .1 .0 in
+    let tr = k .last .1 .1 .1 .1 .1 .1 .1 .1 .1 .0 in
+    (tt, λ ks h. key-refused G T (a .budget) (a .room) K (a .out .now) ks (L .at) (L .written) x (L .out) (L .inv .3 ks h) (c .before .before .before .before .before .before .before .before .before .before .loop-test .taken) v next number (k .result) q sq tr (c .before .before .before .before .before .before .before .before .before .before .before .before .before .before .before .before .before .pre .1) (k .ensures .1) _ (c .if1 .taken))
 
 slice-aggregate-pairs-size : tie.Need-slice-aggregate-pairs-size Inv-loop μ-loop
 slice-aggregate-pairs-size c = sym (c .before .before .before .before .input-key .ensures .0 .0)
@@ -101,16 +101,16 @@ returns-3 c =
     let next = c .before .before .before .before .before .before .before .before .before .before .before .r .given .0 .1 .0 in
     let number = sym (ap (readOf K) (c .before .before .before .before .before .before .before .before .before .before .before .r .given .1)) ∙ c .before .before .before .before .before .before .before .before .before .before .before .before .before .read-number .ensures in
     let k = c .before .before .before .before .before .before .input-key in
-    let q = k .last .1 .1 .1 .1 .1 .1 .0 in
-    let sq = k .last .1 .1 .1 .1 .1 .1 .1 .0 in
-    let tr = k .last .1 .1 .1 .1 .1 .1 .1 .1 .0 in
-    (tt, λ ks h. key-full G T (a .budget) (a .room) K (a .out .now) ks (L .at) (L .written) x (L .out) (L .inv .3 ks h) (c .before .before .before .before .before .before .before .before .before .before .before .before .before .before .loop-test .taken) v next number (k .result) q sq tr (k .ensures .1) _ (c .before .before .before .before .if1 .left) (omega (arith, c .before .pairs-size .ensures, c .if2 .taken, L .inv .0)))
+    let q = k .last .1 .1 .1 .1 .1 .1 .1 .0 in
+    let sq = k .last .1 .1 .1 .1 .1 .1 .1 .1 .0 in
+    let tr = k .last .1 .1 .1 .1 .1 .1 .1 .1 .1 .0 in
+    (tt, λ ks h. key-full G T (a .budget) (a .room) K (a .out .now) ks (L .at) (L .written) x (L .out) (L .inv .3 ks h) (c .before .before .before .before .before .before .before .before .before .before .before .before .before .before .loop-test .taken) v next number (k .result) q sq tr (c .before .before .before .before .before .before .before .before .before .before .before .before .before .before .before .before .before .before .before .before .before .pre .1) (k .ensures .1) _ (c .before .before .before .before .if1 .left) (omega (arith, c .before .pairs-size .ensures, c .if2 .taken, L .inv .0)))
 
 slice-aggregate-store-pairs : tie.Need-slice-aggregate-store-pairs Inv-loop μ-loop
 slice-aggregate-store-pairs c = sym (c .before .before .before .before .before .before .before .before .input-key .ensures .0 .0)
 
 store-pairs-requires : tie.Need-store-pairs-requires Inv-loop μ-loop
-store-pairs-requires c κs = omega (arith, c .before .before .before .pairs-size .ensures, c .before .before .if2 .left, c .before .before .before .before .before .before .before .before .before .before .before .before .before .before .before .before .before .loop .inv .0, c .before .before .before .before .before .before .before .before .before .before .before .before .before .before .before .before .before .loop .inv .1, c .before .before .before .before .before .before .before .before .before .before .before .before .before .before .before .before .before .before .before .before .before .before .before .pre .1)
+store-pairs-requires c κs = omega (arith, c .before .before .before .pairs-size .ensures, c .before .before .if2 .left, c .before .before .before .before .before .before .before .before .before .before .before .before .before .before .before .before .before .loop .inv .0, c .before .before .before .before .before .before .before .before .before .before .before .before .before .before .before .before .before .loop .inv .1, c .before .before .before .before .before .before .before .before .before .before .before .before .before .before .before .before .before .before .before .before .before .before .before .pre .0 .2)
 
 loop-less : tie.Need-loop-less Inv-loop μ-loop
 loop-less c =
@@ -136,11 +136,11 @@ loop-again c =
     let next = c .before .before .before .before .before .before .before .before .before .before .before .before .before .before .before .before .before .r .given .0 .1 .0 in
     let number = sym (ap (readOf K) (c .before .before .before .before .before .before .before .before .before .before .before .before .before .before .before .before .before .r .given .1)) ∙ c .before .before .before .before .before .before .before .before .before .before .before .before .before .before .before .before .before .before .before .read-number .ensures in
     let k = c .before .before .before .before .before .before .before .before .before .before .before .before .input-key in
-    let q = k .last .1 .1 .1 .1 .1 .1 .0 in
-    let sq = k .last .1 .1 .1 .1 .1 .1 .1 .0 in
-    let tr = k .last .1 .1 .1 .1 .1 .1 .1 .1 .0 in
+    let q = k .last .1 .1 .1 .1 .1 .1 .1 .0 in
+    let sq = k .last .1 .1 .1 .1 .1 .1 .1 .1 .0 in
+    let tr = k .last .1 .1 .1 .1 .1 .1 .1 .1 .1 .0 in
     let put = c .before .before .before .store-pairs in
-    (omega (arith, put .ensures .0, c .before .before .before .before .before .before .before .pairs-size .ensures, c .before .before .before .before .before .before .if2 .left, L .inv .0), omega (arith, put .kept .0, L .inv .1), k .ensures .0, λ ks h. key-played G T (a .budget) (a .room) K (a .out .now) ks (L .at) (L .written) x (L .out) (L .inv .3 ks h) (c .before .before .before .before .before .before .before .before .before .before .before .before .before .before .before .before .before .before .before .before .loop-test .taken) v next number (k .result) q sq tr (k .ensures .1) (put .last .0) (put .result) (c .before .before .before .before .before .before .before .before .before .before .if1 .left) (omega (arith, c .before .before .before .before .before .before .before .pairs-size .ensures, c .before .before .before .before .before .before .if2 .left, L .inv .0)) (c .before .before .before .before .before .before .before .before .before .before .before .before .before .before .before .before .before .before .before .before .before .before .before .before .before .before .before .pre .1) (put .ensures .0) (put .ensures .1))
+    (omega (arith, put .ensures .0, c .before .before .before .before .before .before .before .pairs-size .ensures, c .before .before .before .before .before .before .if2 .left, L .inv .0), omega (arith, put .kept .0, L .inv .1), k .ensures .0, λ ks h. key-played G T (a .budget) (a .room) K (a .out .now) ks (L .at) (L .written) x (L .out) (L .inv .3 ks h) (c .before .before .before .before .before .before .before .before .before .before .before .before .before .before .before .before .before .before .before .before .loop-test .taken) v next number (k .result) q sq tr (c .before .before .before .before .before .before .before .before .before .before .before .before .before .before .before .before .before .before .before .before .before .before .before .before .before .before .before .pre .1) (k .ensures .1) (put .last .0) (put .result) (c .before .before .before .before .before .before .before .before .before .before .if1 .left) (omega (arith, c .before .before .before .before .before .before .before .pairs-size .ensures, c .before .before .before .before .before .before .if2 .left, L .inv .0)) (c .before .before .before .before .before .before .before .before .before .before .before .before .before .before .before .before .before .before .before .before .before .before .before .before .before .before .before .pre .0 .2) (put .ensures .0) (put .ensures .1))
 
 same-length-4 : tie.Need-same-length-4 Inv-loop μ-loop
 same-length-4 c = omega (arith, c .before .loop .inv .1)

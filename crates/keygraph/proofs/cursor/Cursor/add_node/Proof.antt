@@ -1,8 +1,6 @@
 -- Below 1,040 nodes the two words go in behind the last, so the view grows by their node; else the cursor is refused with 2.
 -- A cursor that was refused before is kept.
-use mathlib.Core.Path.{_∙_}
 use Prim.Native.Nat.{_+_}
-use lib.ListN.{set, length-set}
 use Rattle.keyparts.specs.View.{packedOf}
 use Rattle.keygraph.specs.View.{graphIn}
 use Rattle.keygraph.specs.Making.{outcome, resultOf, cursorIn}
@@ -15,26 +13,8 @@ use Rattle.keygraph.proofs.cursor.Cursor.add_node.Tie as tie
 least-of-requires : tie.Need-least-of-requires
 least-of-requires c κs = search needs
 
-cast-i : tie.Need-cast-i
-cast-i c = search needs
-
-add-words : tie.Need-add-words
-add-words c = search needs
-
-mul-words : tie.Need-mul-words
-mul-words c = search needs
-
-element-write-words : tie.Need-element-write-words
-element-write-words c = search needs
-
-add-words-2 : tie.Need-add-words-2
-add-words-2 c = search needs
-
-mul-words-2 : tie.Need-mul-words-2
-mul-words-2 c = search needs
-
-element-write-words-2 : tie.Need-element-write-words-2
-element-write-words-2 c = search needs
+set-node-requires : tie.Need-set-node-requires
+set-node-requires c κs = (c .before .before .before .before .before .pre, c .before .if2 .taken)
 
 add-with-nodes : tie.Need-add-with-nodes
 add-with-nodes c = search needs
@@ -44,11 +24,11 @@ with-nodes-requires c κs = search needs
 
 returns : tie.Need-returns
 unfolding resultOf outcome
-returns c = let a = c .before .before .before .before .before .args in let s = a .self in let e = c .before .before .before .before .before .pre in let n = c .before .before .least-of .result in (
-  length-set (set (a .words .now) (2048 + n) (a .p .head)) (3088 + n) (a .p .acts) ∙ length-set (a .words .now) (2048 + n) (a .p .head) ∙ e,
-  rw (c .with-nodes .ensures) (starts-made (s .refusal) (cursorIn (a .words .now) s) (c .before .before .before .if1 .taken)
+returns c = let a = c .before .before .before .before .before .before .before .args in let s = a .self in let e = c .before .before .before .before .before .before .before .pre in let n = c .before .before .before .before .least-of .result in (
+  c .before .set-node .ensures .0,
+  rw (c .with-nodes .ensures) (starts-made (s .refusal) (cursorIn (a .words .now) s) (c .before .before .before .before .before .if1 .taken)
       (node-made (s .refusal) (graphIn (a .words .now) (s .counts)) _ (s .prev) (s .owed) n (packedOf (a .p) .mode) (packedOf (a .p) .action)
-      (rw (c .before .before .before .if1 .taken) (node-more (a .words .now) (s .counts) n (a .p .head) (a .p .acts) e (c .before .before .least-of .ensures) (c .before .if2 .taken))))),
+      (rw (c .before .before .before .before .before .if1 .taken) (node-more (a .words .now) (s .counts) n (a .p .head) (a .p .acts) e (c .before .before .before .before .least-of .ensures) (c .before .set-node .ensures .1 (record { nodes = n + 1; edges = s .counts .edges })) (c .before .before .before .if2 .taken))))),
 )
 
 refused-requires : tie.Need-refused-requires
@@ -72,13 +52,7 @@ add-node-spec =
     tie.close
     (tie.spec
     least-of-requires
-    cast-i
-    add-words
-    mul-words
-    element-write-words
-    add-words-2
-    mul-words-2
-    element-write-words-2
+    set-node-requires
     add-with-nodes
     with-nodes-requires
     returns

@@ -12,7 +12,7 @@ upsert-node-requires : tie.Need-upsert-node-requires
 upsert-node-requires c κs = c .before .pre
 
 pay-requires : tie.Need-pay-requires
-pay-requires c κs = c .before .before .upsert-node .ensures .0
+pay-requires c κs = c .before .upsert-node .ensures .0
 
 edge-to-requires : tie.Need-edge-to-requires
 edge-to-requires c κs = c .before .pay .ensures .0
@@ -21,10 +21,10 @@ go-owing-requires : tie.Need-go-owing-requires
 go-owing-requires c κs = search needs
 
 returns : tie.Need-returns
-returns c = let a = c .before .before .before .before .before .before .before .before .args in (
+returns c = let a = c .before .before .before .before .before .before .before .args in (
   c .before .edge-to .ensures .0,
   restates-in (a .words .now) (a .self) (addSimpleStep (packedOf (a .p) .mode) (eventAt (a .code)) (packedOf (a .p) .action)) (simple-parts (packedOf (a .p) .mode) (eventAt (a .code)) (packedOf (a .p) .action) (cursorIn (a .words .now) (a .self)))
-      (with _ (c .before .before .before .before .before .before .upsert-node .ensures .1) (then (c .before .before .before .pay .ensures .1) (then (c .before .edge-to .ensures .1) (c .go-owing .ensures _)))),
+      (with _ (c .before .before .before .before .before .upsert-node .ensures .1) (then (c .before .before .before .pay .ensures .1) (then (c .before .edge-to .ensures .1) (c .go-owing .ensures _)))),
 )
 
 pub add-simple-step-spec : {M : Type 1} → statement M

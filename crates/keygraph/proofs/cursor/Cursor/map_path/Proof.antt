@@ -15,16 +15,13 @@ size-requires : tie.Need-size-requires
 size-requires c κs = search needs
 
 returns : tie.Need-returns
-returns c = let l = c .before in let a = c .before .before .args in let p = a .t4 in let e = l .size .ensures .0 ∙ length-take (p .count) (p .parts) in (c .before .before .pre .1, map-none (a .mode) (stepOf (a .step)) _ _ (view-nil partOf (p .count) (p .parts) rawPart 0 (l .size .result) e (omega arith)))
+returns c = let l = c .before in let a = c .before .before .args in let p = a .path in let e = l .size .ensures .0 ∙ length-take (p .count) (p .parts) in (c .before .before .pre .1, map-none (a .mode) (stepOf (a .step)) _ _ (view-nil partOf (p .count) (p .parts) rawPart 0 (l .size .result) e (omega arith)))
 
 sub-last : tie.Need-sub-last
 sub-last c = search needs
 
-mul-p : tie.Need-mul-p
-mul-p c = search needs
-
-element-copy-out-p : tie.Need-element-copy-out-p
-element-copy-out-p c = search needs
+part-at-requires : tie.Need-part-at-requires
+part-at-requires c κs = omega (arith, c .before .size .ensures .1)
 
 add-intermediates-requires : tie.Need-add-intermediates-requires
 add-intermediates-requires c κs = ((c .before .before .before .before .pre .0, omega (arith, c .before .before .before .size .ensures .1)), c .before .before .before .before .pre .1)
@@ -33,8 +30,8 @@ map-end-requires : tie.Need-map-end-requires
 map-end-requires c κs = (c .before .before .before .before .before .before .pre .0, c .before .add-intermediates .ensures .0)
 
 returns-2 : tie.Need-returns-2
-returns-2 c = let l = c .before .before .before .before .before .before in let a = c .before .before .before .before .before .before .before .args in let p = a .t4 in let e = l .size .ensures .0 ∙ length-take (p .count) (p .parts) in
-    (c .map-end .ensures .0, map-whole (a .mode) (stepOf (a .step)) _ _ _ (view-last partOf (p .count) (p .parts) rawPart (l .size .result) (l .size .result - 1) e (omega (arith, c .before .before .before .before .before .if1 .left))) (c .before .before .add-intermediates .ensures .1) (c .map-end .ensures .1))
+returns-2 c = let l = c .before .before .before .before .before .before in let a = c .before .before .before .before .before .before .before .args in let p = a .path in let e = l .size .ensures .0 ∙ length-take (p .count) (p .parts) in
+    (c .map-end .ensures .0, map-whole (a .mode) (stepOf (a .step)) _ _ _ (view-last partOf (p .count) (p .parts) rawPart (l .size .result) (l .size .result - 1) e (omega (arith, c .before .before .before .before .before .if1 .left))) (c .before .before .add-intermediates .ensures .1) (rw (c .before .before .before .before .part-at .ensures) at (c .map-end .ensures .1)))
 
 pub map-path-spec : {M : Type 1} → statement M
-map-path-spec = tie.close (tie.spec size-requires returns sub-last mul-p element-copy-out-p add-intermediates-requires map-end-requires returns-2)
+map-path-spec = tie.close (tie.spec size-requires returns sub-last part-at-requires add-intermediates-requires map-end-requires returns-2)

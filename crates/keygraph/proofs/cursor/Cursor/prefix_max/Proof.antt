@@ -20,18 +20,18 @@ add-node-requires : tie.Need-add-node-requires
 add-node-requires c κs = c .before .before .before .pre .1
 
 edge-to-requires : tie.Need-edge-to-requires
-edge-to-requires c κs = c .before .before .add-node .ensures .0
+edge-to-requires c κs = c .before .add-node .ensures .0
 
 add-edge-requires : tie.Need-add-edge-requires
 add-edge-requires c κs = c .before .edge-to .ensures .0
 
 add-max-requires : tie.Need-add-max-requires
-add-max-requires c κs = (c .before .before .before .before .before .before .before .before .before .before .pre .0, c .before .add-edge .ensures .0)
+add-max-requires c κs = (c .before .before .before .before .before .before .before .before .before .pre .0, c .before .add-edge .ensures .0)
 
 returns-2 : tie.Need-returns-2
-returns-2 c = let a = c .before .before .before .before .before .before .before .before .before .before .before .args in (
+returns-2 c = let a = c .before .before .before .before .before .before .before .before .before .before .args in (
   c .add-max .ensures .0,
-  λ os e. max-prefixes (a .mode) (eventAt (a .code)) (a .n) (a .single) os (sym (c .before .before .before .before .before .before .before .before .before .before .is-nothing .ensures) ∙ c .before .before .before .before .before .before .before .before .before .if1 .left) (with _ (rw e at (c .before .before .before .before .before .before .before .add-node .ensures .1)) (then (to-falls _ (c .before .before .before .before .edge-to .ensures .1)) (then (between-falls _ _ (c .before .before .add-edge .ensures .1)) (c .add-max .ensures .1)))),
+  λ os e. max-prefixes (a .mode) (eventAt (a .code)) (a .n) (a .single) os (sym (c .before .before .before .before .before .before .before .before .before .is-nothing .ensures) ∙ c .before .before .before .before .before .before .before .before .if1 .left) (with _ (rw e at (c .before .before .before .before .before .before .add-node .ensures .1)) (then (to-falls _ (c .before .before .before .before .edge-to .ensures .1)) (then (between-falls _ _ (c .before .before .add-edge .ensures .1)) (c .add-max .ensures .1)))),
 )
 
 pub prefix-max-spec : {M : Type 1} → statement M

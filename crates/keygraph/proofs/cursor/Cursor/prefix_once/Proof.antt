@@ -10,16 +10,16 @@ add-node-requires : tie.Need-add-node-requires
 add-node-requires c κs = c .before .before .pre .1
 
 edge-to-requires : tie.Need-edge-to-requires
-edge-to-requires c κs = c .before .before .add-node .ensures .0
+edge-to-requires c κs = c .before .add-node .ensures .0
 
 add-edge-requires : tie.Need-add-edge-requires
 add-edge-requires c κs = c .before .edge-to .ensures .0
 
 returns : tie.Need-returns
 unfolding prefixLast chosenOf actionOf
-returns c = let t = c .before .before .before .before .before .before .before .if1 .taken in (
+returns c = let t = c .before .before .before .before .before .before .if1 .taken in (
   c .add-edge .ensures .0,
-  λ single s e. rw t (with _ (rw (e, t) at (c .before .before .before .before .before .add-node .ensures .1)) (then (c .before .before .edge-to .ensures .1) (between-falls _ _ (c .add-edge .ensures .1)))),
+  λ single s e. rw t (with _ (rw (e, t) at (c .before .before .before .before .add-node .ensures .1)) (then (c .before .before .edge-to .ensures .1) (between-falls _ _ (c .add-edge .ensures .1)))),
 )
 
 edge-to-requires-2 : tie.Need-edge-to-requires-2

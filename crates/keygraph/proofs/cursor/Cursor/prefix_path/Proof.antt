@@ -19,16 +19,13 @@ size-requires : tie.Need-size-requires
 size-requires c κs = search needs
 
 returns : tie.Need-returns
-returns c = let l = c .before in let a = c .before .before .args in let p = a .t4 in let e = l .size .ensures .0 ∙ length-take (p .count) (p .parts) in (c .before .before .pre .1, prefix-none (a .mode) (chosenOf (a .chosen) (stepOf (a .step))) _ true _ (view-nil partOf (p .count) (p .parts) rawPart 0 (l .size .result) e (omega arith)))
+returns c = let l = c .before in let a = c .before .before .args in let p = a .path in let e = l .size .ensures .0 ∙ length-take (p .count) (p .parts) in (c .before .before .pre .1, prefix-none (a .mode) (chosenOf (a .chosen) (stepOf (a .step))) _ true _ (view-nil partOf (p .count) (p .parts) rawPart 0 (l .size .result) e (omega arith)))
 
 sub-last : tie.Need-sub-last
 sub-last c = search needs
 
-mul-p : tie.Need-mul-p
-mul-p c = search needs
-
-element-copy-out-p : tie.Need-element-copy-out-p
-element-copy-out-p c = search needs
+part-at-requires : tie.Need-part-at-requires
+part-at-requires c κs = omega (arith, c .before .size .ensures .1)
 
 add-intermediates-requires : tie.Need-add-intermediates-requires
 add-intermediates-requires c κs = ((c .before .before .before .before .pre .0, omega (arith, c .before .before .before .size .ensures .1)), c .before .before .before .before .pre .1)
@@ -37,8 +34,8 @@ prefix-end-requires : tie.Need-prefix-end-requires
 prefix-end-requires c κs = (c .before .before .before .before .before .before .pre .0, c .before .add-intermediates .ensures .0)
 
 returns-2 : tie.Need-returns-2
-returns-2 c = let l = c .before .before .before .before .before .before in let a = c .before .before .before .before .before .before .before .args in let p = a .t4 in let e = l .size .ensures .0 ∙ length-take (p .count) (p .parts) in
-    (c .prefix-end .ensures .0, prefix-whole (a .mode) (chosenOf (a .chosen) (stepOf (a .step))) _ _ _ _ (view-last partOf (p .count) (p .parts) rawPart (l .size .result) (l .size .result - 1) e (omega (arith, c .before .before .before .before .before .if1 .left))) (ap (λ (k : ℕ). eqb k 0) (sym (view-count partOf (p .parts) (l .size .result - 1) (omega (arith, e))))) (c .before .before .add-intermediates .ensures .1) (c .prefix-end .ensures .1))
+returns-2 c = let l = c .before .before .before .before .before .before in let a = c .before .before .before .before .before .before .before .args in let p = a .path in let e = l .size .ensures .0 ∙ length-take (p .count) (p .parts) in
+    (c .prefix-end .ensures .0, prefix-whole (a .mode) (chosenOf (a .chosen) (stepOf (a .step))) _ _ _ _ (view-last partOf (p .count) (p .parts) rawPart (l .size .result) (l .size .result - 1) e (omega (arith, c .before .before .before .before .before .if1 .left))) (ap (λ (k : ℕ). eqb k 0) (sym (view-count partOf (p .parts) (l .size .result - 1) (omega (arith, e))))) (c .before .before .add-intermediates .ensures .1) (rw (c .before .before .before .before .part-at .ensures) at (c .prefix-end .ensures .1)))
 
 pub prefix-path-spec : {M : Type 1} → statement M
-prefix-path-spec = tie.close (tie.spec size-requires returns sub-last mul-p element-copy-out-p add-intermediates-requires prefix-end-requires returns-2)
+prefix-path-spec = tie.close (tie.spec size-requires returns sub-last part-at-requires add-intermediates-requires prefix-end-requires returns-2)

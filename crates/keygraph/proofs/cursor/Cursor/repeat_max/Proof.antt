@@ -16,17 +16,17 @@ add-empty-requires : tie.Need-add-empty-requires
 add-empty-requires c κs = c .before .before .pre
 
 edge-to-requires : tie.Need-edge-to-requires
-edge-to-requires c κs = c .before .before .add-empty .ensures .0
+edge-to-requires c κs = c .before .add-empty .ensures .0
 
 add-max-requires : tie.Need-add-max-requires
-add-max-requires c κs = (c .before .before .before .before .before .before .before .pre .0, c .before .edge-to .ensures .0)
+add-max-requires c κs = (c .before .before .before .before .before .before .pre .0, c .before .edge-to .ensures .0)
 
 go-requires : tie.Need-go-requires
 go-requires c κs = search needs
 
 returns-2 : tie.Need-returns-2
-returns-2 c = let a = c .before .before .before .before .before .before .before .before .before .args in
-    (c .before .add-max .ensures .0, max-repeats (a .mode) (eventAt (a .code)) (a .n) (c .before .before .before .before .before .before .before .before .if1 .left) (with _ (c .before .before .before .before .before .before .add-empty .ensures .1) (then (to-falls _ (c .before .before .before .edge-to .ensures .1)) (then (c .before .add-max .ensures .1) (c .go .ensures _)))))
+returns-2 c = let a = c .before .before .before .before .before .before .before .before .args in
+    (c .before .add-max .ensures .0, max-repeats (a .mode) (eventAt (a .code)) (a .n) (c .before .before .before .before .before .before .before .if1 .left) (with _ (c .before .before .before .before .before .add-empty .ensures .1) (then (to-falls _ (c .before .before .before .edge-to .ensures .1)) (then (c .before .add-max .ensures .1) (c .go .ensures _)))))
 
 pub repeat-max-spec : {M : Type 1} → statement M
 repeat-max-spec = tie.close (tie.spec returns add-empty-requires edge-to-requires add-max-requires go-requires returns-2)

@@ -1,8 +1,6 @@
 -- Words that hold no step leave the node as it is. Else the node's mode, which its first word has, is held to theirs: 4 where they
 -- differ, and else the node's words are replaced, if there is such a node. A cursor that was refused before is kept.
-use mathlib.Core.Path.{_∙_}
-use Prim.Native.Nat.{_+_}
-use lib.ListN.{set, length-set}
+use native.Mathlib.Omega.{arith}
 use Rattle.keyparts.specs.View.{packedOf}
 use Rattle.keygraph.specs.View.{graphIn}
 use Rattle.keygraph.specs.Making.{outcome, resultOf, cursorIn}
@@ -26,30 +24,15 @@ least-of-requires c κs = search needs
 head-at-requires : tie.Need-head-at-requires
 head-at-requires c κs = search needs
 
-add-words : tie.Need-add-words
-add-words c = search needs
-
-mul-words : tie.Need-mul-words
-mul-words c = search needs
-
-element-write-words : tie.Need-element-write-words
-element-write-words c = search needs
-
-add-words-2 : tie.Need-add-words-2
-add-words-2 c = search needs
-
-mul-words-2 : tie.Need-mul-words-2
-mul-words-2 c = search needs
-
-element-write-words-2 : tie.Need-element-write-words-2
-element-write-words-2 c = search needs
+set-node-requires : tie.Need-set-node-requires
+set-node-requires c κs = (c .before .before .before .before .before .before .before .before .before .before .before .before .pre, omega (arith, c .before .before .before .before .before .before .before .least-of .ensures, c .before .if4 .taken))
 
 returns-2 : tie.Need-returns-2
 unfolding resultOf outcome
-returns-2 c = let a = c .before .before .before .before .before .before .before .before .before .before .before .args in let s = a .self in let e = c .before .before .before .before .before .before .before .before .before .before .before .pre in let g = graphIn (a .words .now) (s .counts) in (
-  length-set (set (a .words .now) (2048 + a .node) (a .p .head)) (3088 + a .node) (a .p .acts) ∙ length-set (a .words .now) (2048 + a .node) (a .p .head) ∙ e,
-  starts-made (s .refusal) (cursorIn (a .words .now) s) (c .before .before .before .before .before .before .before .before .before .if1 .taken) (settle-made (s .refusal) g _ (s .prev) (s .owed) (a .node) (packedOf (a .p) .mode) (a .node) (packedOf (a .p) .action)
-      (rw (c .before .before .before .before .before .before .before .before .before .if1 .taken) (settle-put (a .words .now) (s .counts) (c .before .before .before .before .before .before .least-of .result) (a .node) (a .p .head) (a .p .acts) (c .before .before .before .head-at .result) e (c .before .before .before .before .before .before .least-of .ensures) (c .before .before .before .before .before .before .before .if2 .left) (c .before .before .before .head-at .ensures) (c .before .if3 .taken) (c .if4 .taken)))),
+returns-2 c = let a = c .before .before .before .before .before .before .before .before .before .before .before .before .before .args in let s = a .self in let e = c .before .before .before .before .before .before .before .before .before .before .before .before .before .pre in let g = graphIn (a .words .now) (s .counts) in (
+  c .set-node .ensures .0,
+  starts-made (s .refusal) (cursorIn (a .words .now) s) (c .before .before .before .before .before .before .before .before .before .before .before .if1 .taken) (settle-made (s .refusal) g _ (s .prev) (s .owed) (a .node) (packedOf (a .p) .mode) (a .node) (packedOf (a .p) .action)
+      (rw (c .before .before .before .before .before .before .before .before .before .before .before .if1 .taken) (settle-put (a .words .now) (s .counts) (c .before .before .before .before .before .before .before .before .least-of .result) (a .node) (a .p .head) (a .p .acts) (c .before .before .before .before .before .head-at .result) e (c .before .before .before .before .before .before .before .before .least-of .ensures) (c .before .before .before .before .before .before .before .before .before .if2 .left) (c .before .before .before .before .before .head-at .ensures) (c .set-node .ensures .1 (s .counts)) (c .before .before .before .if3 .taken) (c .before .before .if4 .taken)))),
 )
 
 returns-3 : tie.Need-returns-3
@@ -82,12 +65,7 @@ settle-spec =
     returns
     least-of-requires
     head-at-requires
-    add-words
-    mul-words
-    element-write-words
-    add-words-2
-    mul-words-2
-    element-write-words-2
+    set-node-requires
     returns-2
     returns-3
     refused-requires

@@ -18,16 +18,16 @@ enum-known-e c = search needs
 settle-requires : tie.Need-settle-requires
 settle-requires c κs = search needs
 
+returns : tie.Need-returns
+unfolding outcome
+returns c = let a = c .before .before .before .before .before .before .before .before .args in let s = a .self in
+    (c .settle .ensures .0, restates-made (s .refusal) (cursorIn (a .words .now) s) (upserted (packedOf (a .p) .mode) (eventAt (a .code)) (packedOf (a .p) .action)) (upsert-there (cursorIn (a .words .now) s) (packedOf (a .p) .mode) (eventAt (a .code)) (packedOf (a .p) .action) _ (sym (ap maybeOf (c .before .before .before .e .given .1)) ∙ c .before .before .before .before .before .get-edge .ensures (nodesOf (headWords (a .words .now)) (actWords (a .words .now)) (s .counts .nodes)))) (c .settle .ensures .1))
+
 enum-told : tie.Need-enum-told
 enum-told c = search needs
 
 add-node-requires : tie.Need-add-node-requires
 add-node-requires c κs = search needs
-
-returns : tie.Need-returns
-unfolding outcome
-returns c = let a = c .before .before .before .before .before .before .before .before .args in let s = a .self in
-    (c .settle .ensures .0, restates-made (s .refusal) (cursorIn (a .words .now) s) (upserted (packedOf (a .p) .mode) (eventAt (a .code)) (packedOf (a .p) .action)) (upsert-there (cursorIn (a .words .now) s) (packedOf (a .p) .mode) (eventAt (a .code)) (packedOf (a .p) .action) _ (sym (ap maybeOf (c .before .before .before .e .given .1)) ∙ c .before .before .before .before .before .get-edge .ensures (nodesOf (headWords (a .words .now)) (actWords (a .words .now)) (s .counts .nodes)))) (c .settle .ensures .1))
 
 returns-2 : tie.Need-returns-2
 unfolding outcome
@@ -41,7 +41,7 @@ upsert-node-spec =
     get-edge-requires
     enum-known-e
     settle-requires
+    returns
     enum-told
     add-node-requires
-    returns
     returns-2)

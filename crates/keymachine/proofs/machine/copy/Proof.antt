@@ -6,8 +6,8 @@ use lib.ListN.{length, drop, length-set}
 use lib.Seq.{paste, paste-zero}
 use borrow.Author.Needs.{needs}
 use Rattle.keymachine.proofs.Lists.{paste-turn}
-use Rattle.keymachine.proofs.number.copy.Statement.{statement}
-use Rattle.keymachine.proofs.number.copy.Tie as tie
+use Rattle.keymachine.proofs.machine.copy.Statement.{statement}
+use Rattle.keymachine.proofs.machine.copy.Tie as tie
 
 abbrev Inv-loop : tie.InvT-loop
 Inv-loop dst₀ to src from n i₀ dst i = (i ≤ n) × (length dst ≡ length dst₀) × (dst ≡ paste dst₀ to (drop from src) i)

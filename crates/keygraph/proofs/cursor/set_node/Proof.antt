@@ -1,0 +1,35 @@
+-- The two stores lie in the nodes' first and second words.
+use mathlib.Core.Path.{_∙_}
+use Prim.Native.Nat.{_+_}
+use lib.ListN.{set, length-set}
+use Rattle.keygraph.proofs.Places.{node-stored}
+use borrow.Author.Needs.{needs}
+use Rattle.keygraph.proofs.cursor.set_node.Statement.{statement}
+use Rattle.keygraph.proofs.cursor.set_node.Tie as tie
+
+add-words : tie.Need-add-words
+add-words c = search needs
+
+mul-words : tie.Need-mul-words
+mul-words c = search needs
+
+element-write-words : tie.Need-element-write-words
+element-write-words c = search needs
+
+add-words-2 : tie.Need-add-words-2
+add-words-2 c = search needs
+
+mul-words-2 : tie.Need-mul-words-2
+mul-words-2 c = search needs
+
+element-write-words-2 : tie.Need-element-write-words-2
+element-write-words-2 c = search needs
+
+returns : tie.Need-returns
+returns c = let a = c .args in let ws = a .words .now in let n = a .node in (
+  length-set (set ws (2048 + n) (a .p .head)) (3088 + n) (a .p .acts) ∙ length-set ws (2048 + n) (a .p .head) ∙ c .pre .0,
+  λ k. node-stored ws n (a .p .head) (a .p .acts) k (c .pre .1),
+)
+
+pub set-node-spec : {M : Type 1} → statement M
+set-node-spec = tie.close (tie.spec add-words mul-words element-write-words add-words-2 mul-words-2 element-write-words-2 returns)
