@@ -12,8 +12,8 @@ use Rattle.rules.specs.KeyLoop.{Tracker, noTracker, override, fetch, withQueue,
 use Rattle.rules.specs.Calls.{Machine, withShared, settled, repeat-call, call, Repeats, graphKind, Accepted, Refused}
 use Rattle.keypairs.specs.Views.{pairOf, pairsOf, trackerOf, trackersOf, fetchedAt, blocks}
 use Rattle.keypairs.proofs.Lists.{length-blocks}
-use Rattle.keymachine.proofs.Lists.{drop-take, take-min}
 use Rattle.keypairs.proofs.Sequences.{block, block-long, tracker-at, length-pairs, count-is}
+use Rattle.keymachine.proofs.Lists.{drop-take, take-min}
 
 -- the words of a block's pairs
 block-words : (b : List ℕ) (n : ℕ) → length b ≡ 65 → n ≡ length (trackerOf b .pairs) → map pairOf (take n (drop 1 b)) ≡ trackerOf b .pairs

@@ -117,7 +117,7 @@ fn count_of(head: u64) -> u16
 fn fetch(block: &mut [u64], over: Override) -> u16
     requires { ⌜ length (now block) ≡ 65 ⌝ }
     ensures { λ r. ⌜ trackerOf (now (block .exit)) ≡ key.fetch (overOf over) (trackerOf (now (block .entry))) ⌝ }
-    ensures { λ r. ⌜ (r ≡ length (trackerOf (now (block .entry)) .pairs)) × (r ≤ 64) ⌝ }
+    ensures { λ r. ⌜ r ≡ length (trackerOf (now (block .entry)) .pairs) ⌝ }
 {
     let count = count_of(block[0]);
     let n = count as usize;
@@ -131,6 +131,7 @@ fn fetch(block: &mut [u64], over: Override) -> u16
     count
 }
 
+// The language lends a part of a slice and not of an array, so what goes over the eight blocks takes a slice.
 fn break_each(sequences: &mut [u64])
     requires { ⌜ length (now sequences) ≡ 520 ⌝ }
     ensures { λ _. ⌜ trackersOf (now (sequences .exit)) ≡ map broke (trackersOf (now (sequences .entry))) ⌝ }

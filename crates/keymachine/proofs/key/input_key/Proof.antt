@@ -10,10 +10,10 @@ use Rattle.rules.specs.Basics.{Result}
 use Rattle.rules.specs.KeyLoop.{State, KeyResult, loop, inputKey}
 use Rattle.keyparts.specs.View.{stepOf, classesOf, edgesOf}
 use Rattle.keygraph.specs.View.{graphIn, edgeWords}
-use Rattle.keymachine.specs.declared.turn.InputResult.{InputResult}
-use Rattle.keypairs.specs.Views.{outcome, tablesOf, stateOf}
-use Rattle.keymachine.specs.Views.{linkNavigator, resultBy, keyOf}
+use Rattle.keypairs.specs.Views.{tablesOf, stateOf}
 use Rattle.keypairs.proofs.Lists.{outcome-ok, outcome-no}
+use Rattle.keymachine.specs.declared.turn.InputResult.{InputResult}
+use Rattle.keymachine.specs.Views.{linkNavigator, resultBy}
 use Rattle.keymachine.proofs.Lists.{take-min}
 use Rattle.keymachine.proofs.Stack.{weight, weight-most, drop-put}
 use Rattle.keymachine.proofs.Navigators.{step-same, unmapped-same}

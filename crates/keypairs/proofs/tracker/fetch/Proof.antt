@@ -74,7 +74,7 @@ same-length : tie.Need-same-length Inv-loop μ-loop
 same-length c = search needs
 
 returns : tie.Need-returns Inv-loop μ-loop
-returns c = let a = c .before .before .before .before .before .args in let l = c .before .loop in (l .inv .3 ∙ fetch-end (trackerOf (a .block .now)) (overOf (a .over)) (l .i) (omega arith), (l .inv .2, l .inv .1))
+returns c = let a = c .before .before .before .before .before .args in let l = c .before .loop in (l .inv .3 ∙ fetch-end (trackerOf (a .block .now)) (overOf (a .over)) (l .i) (omega arith), l .inv .2)
 
 pub fetch-spec : {M : Type 1} → statement M
 fetch-spec =

@@ -45,7 +45,7 @@ same-length c = let a = c .before .before .before .before .before .before .args 
 
 returns-2 : tie.Need-returns-2
 returns-2 c = let a = c .before .before .before .before .before .before .args in let f = c .before .before .fetch in let l = lent (c .before .before .before .before) in let h : a .sequence < 8 = c .before .before .before .before .if1 .left in
-    fetched-in (a .sequences .now) (a .sequence) (overOf (a .over)) (c .before .before .before .before .before .before .pre) h (f .last .0) (a .sequence * 65 + 65 - a .sequence * 65) (f .result) (l .0) (f .kept .0 ∙ l .1) (f .ensures .0) (f .ensures .1 .0)
+    fetched-in (a .sequences .now) (a .sequence) (overOf (a .over)) (c .before .before .before .before .before .before .pre) h (f .last .0) (a .sequence * 65 + 65 - a .sequence * 65) (f .result) (l .0) (f .kept .0 ∙ l .1) (f .ensures .0) (f .ensures .1)
 
 pub fetch-in-spec : {M : Type 1} → statement M
 fetch-in-spec =
