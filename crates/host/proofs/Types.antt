@@ -11,8 +11,8 @@ use Rattle.keyparts.proofs.path.EdgePath as EdgePath
 use Rattle.keyparts.proofs.path.EdgePath.Laws as EdgePath′
 use Rattle.keyparts.proofs.step.Step as Step
 use Rattle.keyparts.proofs.step.Step.Laws as Step′
-use Rattle.keymachine.proofs.context.Override as Override
-use Rattle.keymachine.proofs.context.Override.Laws as Override′
+use Rattle.keypairs.proofs.context.Override as Override
+use Rattle.keypairs.proofs.context.Override.Laws as Override′
 use Rattle.keymachine.proofs.machine.ModalMachine as ModalMachine
 use Rattle.keymachine.proofs.machine.ModalMachine.Laws as ModalMachine′
 use Rattle.keymachine.proofs.machine.Pressed as Pressed

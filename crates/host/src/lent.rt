@@ -12,7 +12,8 @@ ghost use mathlib.Core.Path.{_≡_};
 ghost use Rattle.rules.specs.Calls.{graphKind, call, mode-call, Map, Prefix, Press, Pop, Repeats, Reset, FindFits, HintFits};
 ghost use Rattle.keyparts.specs.View.{wholePath, wholeStep, chosenOf, foundOf};
 ghost use Rattle.keygraph.specs.View.{answerOf};
-ghost use Rattle.keymachine.specs.Views.{overOf, machineOf, pressOf, popOf};
+ghost use Rattle.keypairs.specs.Views.{overOf};
+ghost use Rattle.keymachine.specs.Views.{machineOf, pressOf, popOf};
 
 pub fn add_mapping(m: &mut ModalMachine, mode: u16, path: EdgePath, step: Step) -> Answer
     ensures { λ r. ⌜ (machineOf (now (m .exit)), answerOf r) ≡ call graphKind (machineOf (now (m .entry))) (Map mode (wholePath path) (wholeStep step)) ⌝ }

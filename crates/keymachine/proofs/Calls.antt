@@ -1,23 +1,22 @@
 -- The calls on a machine by value, against `call`.
-use Prim.Native.Nat.{ℕ, zero, suc, _+_, _-_, _*_, _≤_, _<_, min}
+use Prim.Native.Nat.{ℕ, zero, suc, _+_, _-_, _≤_, min}
 use mathlib.Core.Path.{_≡_, refl, sym, ap, _∙_}
 use mathlib.Core.Bool.{Bool, true, false}
 use mathlib.Core.Option.{Option}
-use mathlib.Core.List.{List, [], _∷_, _++_, map, append-nil}
+use mathlib.Core.List.{List, [], _∷_, map}
 use native.Mathlib.Omega.{arith}
-use lib.ListN.{length, take, drop, set, getD, length-map, length-drop, drop-of-length-le}
-use lib.Seq.{paste, take-paste, take-all}
+use lib.ListN.{length, take, drop, getD, length-drop}
+use lib.Seq.{paste, take-paste}
 use Rattle.rules.specs.Basics.{Result, accept, refuse, _>>=_, unless}
 use Rattle.rules.specs.Values.{Context, Pair, Part, Step, mapValid, prefixValid}
 use Rattle.rules.specs.Tables.{Tables, tablesValid}
 use Rattle.rules.specs.Graph.{Graph, addMapping, addPrefix}
-use Rattle.rules.specs.KeyLoop.{Tracker, noTracker, State, at, withQueue, KeyResult, Input, inputKey, gotoMode, resetMode, freshShared}
+use Rattle.rules.specs.KeyLoop.{Tracker, State, at, withQueue, KeyResult, Input, inputKey, gotoMode, resetMode, freshShared}
 use Rattle.rules.specs.KeyLoop as key
 use Rattle.rules.specs.Calls.{Machine, Answer, Accepted, Refused, Pressed, PressRefused, Popped, Nothing, withBindings, withState, withShared, fresh, open-with, settled, pressed, popped, map-call, prefix-call, key-call, reset-call, call, Open, Map, Prefix, Press, Pop, Reset, graphKind, graphNavigator}
 use Rattle.keygraph.specs.View as kg
-use Rattle.keymachine.specs.Views.{outcome, pairOf, pairsOf, trackerOf, trackersOf, blocks, broke, shared}
-use Rattle.keymachine.proofs.Lists.{map-more, map-at, length-blocks, drop-take, take-min}
-use Rattle.keymachine.proofs.Sequences.{tracker-at, trackers-back}
+use Rattle.keypairs.specs.Views.{outcome, pairOf, pairsOf, broke, shared}
+use Rattle.keymachine.proofs.Lists.{drop-take, take-min}
 
 -- ---- open
 
@@ -128,18 +127,3 @@ pub reset-is : (g : Graph) (r : Result (State ℕ)) (place mode : ℕ) (t : Tabl
     → r ≡ gotoMode (graphNavigator g) 0 (shared t mode x q tr ts') → r ≡ resetMode (graphNavigator g) (at place (shared t mode x q tr ts))
 unfolding resetMode
 reset-is g r place mode t x q tr ts ts' e p = p ∙ ap (λ (ts : List Tracker). gotoMode (graphNavigator g) 0 (shared t mode x q tr ts)) e
-
-module _ (ws₀ ws : List ℕ) (i : ℕ) where
-  pub break-on : (new : List ℕ) (k : ℕ) → length ws ≡ 520 → i < 8 → trackersOf ws ≡ map broke (take i (trackersOf ws₀)) ++ drop i (trackersOf ws₀) → k ≡ 65 → length new ≡ 65
-      → trackerOf new ≡ broke (trackerOf (take k (drop (i * 65) ws)))
-      → trackersOf (take (i * 65) ws ++ (new ++ drop k (drop (i * 65) ws))) ≡ map broke (take (i + 1) (trackersOf ws₀)) ++ drop (i + 1) (trackersOf ws₀)
-  break-on new k l h inv ek ln e =
-      let n : i < length (trackersOf ws₀) = omega (arith, length-map (blocks 65 8 ws₀) trackerOf, length-blocks 65 8 ws₀) in
-      let d : getD (trackersOf ws) i noTracker ≡ getD (trackersOf ws₀) i noTracker = ap (λ (r : List Tracker). getD r i noTracker) inv ∙ map-at broke (trackersOf ws₀) i noTracker n in
-      let v : trackerOf new ≡ broke (getD (trackersOf ws₀) i noTracker) = e ∙ ap (λ (j : ℕ). broke (trackerOf (take j (drop (i * 65) ws)))) ek ∙ ap broke (sym (tracker-at ws i l h) ∙ d) in
-      ap (λ (j : ℕ). trackersOf (take (i * 65) ws ++ (new ++ drop j (drop (i * 65) ws)))) ek ∙ trackers-back ws i l h new ln ∙ rw (v, inv) (map-more broke (trackersOf ws₀) i noTracker n)
-
-  pub break-end : 8 ≤ i → trackersOf ws ≡ map broke (take i (trackersOf ws₀)) ++ drop i (trackersOf ws₀) → trackersOf ws ≡ map broke (trackersOf ws₀)
-  break-end h inv =
-      let n : length (trackersOf ws₀) ≤ i = omega (arith, length-map (blocks 65 8 ws₀) trackerOf, length-blocks 65 8 ws₀) in
-      inv ∙ rw (take-all i (trackersOf ws₀) n, drop-of-length-le (trackersOf ws₀) n, append-nil)

@@ -1,19 +1,19 @@
 -- A repeated sequence: its words before those of the queue, against `repeatSequence`.
-use Prim.Native.Nat.{ℕ, zero, suc, _+_, _-_, _*_, _/_, _≤_, _<_, min}
-use mathlib.Core.Path.{_≡_, refl, sym, ap, _∙_}
+use Prim.Native.Nat.{ℕ, _+_, _*_, _/_, _≤_, _<_, min}
+use mathlib.Core.Path.{_≡_, sym, ap, _∙_}
 use mathlib.Core.Option.{Option}
-use mathlib.Core.List.{List, [], _∷_, _++_, map, map-append}
+use mathlib.Core.List.{List, _++_, map, map-append}
 use native.Mathlib.Omega.{arith}
-use lib.ListN.{length, take, drop, set, getD, length-take, length-map, length-drop, length-append}
-use lib.Seq.{take-append-le, paste, length-paste, take-paste, drop-paste, take-take, take-add, take-at, drop-at, drop-drop, length-take-le, getD-set-same}
+use lib.ListN.{length, take, drop, set, getD, length-map, length-drop}
+use lib.Seq.{paste, length-paste, take-paste, drop-paste, take-take, take-add, take-at, drop-at, drop-drop, length-take-le, getD-set-same}
 use borrow.Author.Tests.{lt-ltb, le-ltb, le-leb, lt-leb}
-use Rattle.rules.specs.Basics.{unless, accept, refuse}
 use Rattle.rules.specs.Values.{Context, Pair}
 use Rattle.rules.specs.KeyLoop.{Tracker, noTracker, override, fetch, withQueue, withSequences, repeatSequence}
 use Rattle.rules.specs.Calls.{Machine, withShared, settled, repeat-call, call, Repeats, graphKind, Accepted, Refused}
-use Rattle.keymachine.specs.Views.{pairOf, pairsOf, trackerOf, trackersOf, blocks}
-use Rattle.keymachine.proofs.Lists.{drop-take, take-min, length-blocks}
-use Rattle.keymachine.proofs.Sequences.{block, block-long, tracker-at, trackers-back, length-pairs, count-is}
+use Rattle.keypairs.specs.Views.{pairOf, pairsOf, trackerOf, trackersOf, fetchedAt, blocks}
+use Rattle.keypairs.proofs.Lists.{length-blocks}
+use Rattle.keypairs.proofs.Sequences.{block, block-long, tracker-at, length-pairs, count-is}
+use Rattle.keymachine.proofs.Lists.{drop-take, take-min}
 
 -- the words of a block's pairs
 block-words : (b : List ℕ) (n : ℕ) → length b ≡ 65 → n ≡ length (trackerOf b .pairs) → map pairOf (take n (drop 1 b)) ≡ trackerOf b .pairs
@@ -23,18 +23,10 @@ block-words b n e en =
     let k : n ≡ min (getD b 0 0 / 2) 64 = en ∙ length-pairs (getD b 0 0 / 2) (drop 1 b) ∙ ap (min (getD b 0 0 / 2)) l in
     ap (map pairOf) (take-min (getD b 0 0 / 2) 64 (drop 1 b) n l k)
 
--- a block that came back, from its second word on
-back-words : (ws new : List ℕ) (start k n : ℕ) → start ≤ length ws → length new ≡ 65 → n ≤ 64
-    → take n (drop (start + 1) (take start ws ++ (new ++ drop k (drop start ws)))) ≡ take n (drop 1 new)
-back-words ws new start k n h e l =
-    let a : length (take start ws) ≡ start = length-take-le start ws h in
-    let d : drop (start + 1) (take start ws ++ (new ++ drop k (drop start ws))) ≡ drop 1 (new ++ drop k (drop start ws))
-    = sym (drop-drop 1 start (take start ws ++ (new ++ drop k (drop start ws)))) ∙ ap (drop 1) (drop-at (take start ws) (new ++ drop k (drop start ws)) start a) in
-    ap (take n) d ∙ front new (drop k (drop start ws)) e
-  where
-    front : (b r : List ℕ) → length b ≡ 65 → take n (drop 1 (b ++ r)) ≡ take n (drop 1 b)
-    front [] r q = absurd (omega arith)
-    front (x ∷ b) r q = take-append-le n b r (omega arith)
+-- the pairs of the sequence q, in the array of all
+pair-words : (ws : List ℕ) (q n : ℕ) → n ≤ 64 → take n (drop 1 (block ws q)) ≡ take n (drop (q * 65 + 1) ws)
+pair-words ws q n h =
+    ap (take n) (drop-take 65 (drop (q * 65) ws)) ∙ take-take n 64 (drop 1 (drop (q * 65) ws)) h ∙ ap (take n) (drop-drop 1 (q * 65) ws)
 
 two-pastes : (old src : List ℕ) (n k : ℕ) → length old ≡ 256 → n ≤ length src → n + k ≤ 256 → take (n + k) (paste (paste old n old k) 0 src n) ≡ take n src ++ take k old
 two-pastes old src n k e h l =
@@ -72,24 +64,32 @@ module _ (s : Machine graphKind) (q : ℕ) (o : Option Context) where
     unfolding call settled repeat-call repeatSequence
     repeat-done Q ts l eQ ets = rw (lt-ltb q 8 h, ← et, le-leb (length (t .pairs) + length (s .state .shared .queue)) 256 (omega arith), eQ, ets)
 
--- what the code builds: new is the sequence's block after fetching, k words were lent
-module _ (ws new old : List ℕ) (q k n m queued : ℕ) (o : Option Context) (ls : length ws ≡ 520) (lo : length old ≡ 256) (h : q < 8) (ek : k ≡ 65) (ln : length new ≡ 65)
-    (e : trackerOf new ≡ fetch o (trackerOf (take k (drop (q * 65) ws)))) (en : n ≡ length (trackerOf (take k (drop (q * 65) ws)) .pairs)) (hn : n ≤ 64) where
-  pub fetched : trackerOf new ≡ fetch o (getD (trackersOf ws) q noTracker)
-  fetched = e ∙ ap (fetch o) (ap (λ (j : ℕ). trackerOf (take j (drop (q * 65) ws))) ek ∙ sym (tracker-at ws q ls h))
+-- what fetching the sequence q of the words ws left: the words ws', whose sequence q has n pairs
+module _ (ws ws' : List ℕ) (q n : ℕ) (o : Option Context) (l : length ws ≡ 520) (l' : length ws' ≡ 520) (h : q < 8)
+    (e : _≡_ {A = List Tracker × ℕ} (trackersOf ws', n) (fetchedAt q o (trackersOf ws))) where
+  pub fetched-sequences : trackersOf ws' ≡ set (trackersOf ws) q (fetch o (getD (trackersOf ws) q noTracker))
+  fetched-sequences = ap (λ (r : List Tracker × ℕ). r .0) e
 
-  pub fetched-long : n ≡ length (trackerOf new .pairs)
+  fetched-block : trackerOf (block ws' q) ≡ fetch o (getD (trackersOf ws) q noTracker)
+  fetched-block =
+      let k : q < length (trackersOf ws) = omega (arith, length-map (blocks 65 8 ws) trackerOf, length-blocks 65 8 ws) in
+      sym (tracker-at ws' q l' h) ∙ ap (λ (ts : List Tracker). getD ts q noTracker) fetched-sequences ∙ getD-set-same (trackersOf ws) q (fetch o (getD (trackersOf ws) q noTracker)) noTracker k
+
+  pub fetched-long : n ≡ length (fetch o (getD (trackersOf ws) q noTracker) .pairs)
   unfolding fetch
-  fetched-long = en ∙ sym (length-map (trackerOf (take k (drop (q * 65) ws)) .pairs) (override o)) ∙ ap (λ (t : Tracker). length (t .pairs)) (sym e)
+  fetched-long = ap (λ (r : List Tracker × ℕ). r .1) e ∙ sym (length-map (getD (trackersOf ws) q noTracker .pairs) (override o))
 
-  pub built-sequences : trackersOf (take (q * 65) ws ++ (new ++ drop k (drop (q * 65) ws))) ≡ set (trackersOf ws) q (trackerOf new)
-  built-sequences = ap (λ (j : ℕ). trackersOf (take (q * 65) ws ++ (new ++ drop j (drop (q * 65) ws)))) ek ∙ trackers-back ws q ls h new ln
+  block-count : n ≡ length (trackerOf (block ws' q) .pairs)
+  block-count = fetched-long ∙ ap (λ (t : Tracker). length (t .pairs)) (sym fetched-block)
 
-  pub built-queue : m ≡ min queued 256 → n + m ≤ 256 → (ws' : List ℕ) → ws' ≡ take (q * 65) ws ++ (new ++ drop k (drop (q * 65) ws)) → length ws' ≡ 520
-      → pairsOf (n + m) (paste (paste old n (drop 0 old) m) 0 (drop (q * 65 + 1) ws') n) ≡ trackerOf new .pairs ++ pairsOf queued old
-  built-queue em l ws' ew lw =
-      let a : n ≤ length (drop (q * 65 + 1) ws') = omega (arith, length-drop (q * 65 + 1) ws') in
-      let b : take n (drop (q * 65 + 1) ws') ≡ take n (drop 1 new) = ap (λ (z : List ℕ). take n (drop (q * 65 + 1) z)) ew ∙ back-words ws new (q * 65) k n (omega arith) ln hn in
-      ap (map pairOf) (two-pastes old (drop (q * 65 + 1) ws') n m lo a l) ∙ map-append pairOf (take n (drop (q * 65 + 1) ws')) (take m old)
-      ∙ ap (λ (r : List Pair). r ++ pairsOf m old) (ap (map pairOf) b ∙ block-words new n ln fetched-long)
-      ∙ ap (λ (r : List ℕ). trackerOf new .pairs ++ map pairOf r) (take-min queued 256 old m lo em)
+  pub fetched-few : n ≤ 64
+  fetched-few = omega (arith, block-count, count-is (block ws' q) (block-long ws' q l' h))
+
+  -- its words before those of the queue
+  pub built-queue : (old : List ℕ) (queued k : ℕ) → length old ≡ 256 → k ≡ min queued 256 → n + k ≤ 256
+      → pairsOf (n + k) (paste (paste old n (drop 0 old) k) 0 (drop (q * 65 + 1) ws') n) ≡ fetch o (getD (trackersOf ws) q noTracker) .pairs ++ pairsOf queued old
+  built-queue old queued k lo ek s =
+      let a : n ≤ length (drop (q * 65 + 1) ws') = omega (arith, fetched-few, length-drop (q * 65 + 1) ws') in
+      ap (map pairOf) (two-pastes old (drop (q * 65 + 1) ws') n k lo a s) ∙ map-append pairOf (take n (drop (q * 65 + 1) ws')) (take k old)
+      ∙ ap (λ (r : List Pair). r ++ pairsOf k old) (ap (map pairOf) (sym (pair-words ws' q n fetched-few)) ∙ block-words (block ws' q) n (block-long ws' q l' h) block-count ∙ ap (λ (t : Tracker). t .pairs) fetched-block)
+      ∙ ap (λ (r : List ℕ). fetch o (getD (trackersOf ws) q noTracker) .pairs ++ map pairOf r) (take-min queued 256 old k lo ek)

@@ -1,13 +1,13 @@
 // One key, in place. The map's arrays are only read, and the live arrays are changed where they stand, so a key copies
 // nothing. The keys still to try are a stack that grows downwards, whose top is the next one.
-use crate::number;
-use crate::state::Sizes;
-use crate::state::State;
-use crate::step;
 use crate::turn;
 use crate::turn::InputResult;
 use keygraph::graph::Counts;
 use keygraph::index::Index;
+use keygraph::number;
+use keypairs::state::Sizes;
+use keypairs::state::State;
+use keypairs::step;
 ghost use mathlib.Core.Path.{_≡_};
 ghost use mathlib.Core.List.{List, _++_, _∷_};
 ghost use Prim.Native.Nat.{_-_, _≤_, _<_};
@@ -15,7 +15,8 @@ ghost use lib.ListN.{length, take, drop};
 ghost use Rattle.rules.specs.KeyLoop as key;
 ghost use Rattle.rules.specs.Calls.{graphNavigator};
 ghost use Rattle.keygraph.specs.View.{graphIn};
-ghost use Rattle.keymachine.specs.Views.{linkNavigator, tablesOf, stateOf, keyOf};
+ghost use Rattle.keypairs.specs.Views.{tablesOf, stateOf};
+ghost use Rattle.keymachine.specs.Views.{linkNavigator, keyOf};
 
 // What a key came to. Refused, `refusal` and `rounds` are all that is promised of it and of the lent arrays.
 pub struct Handled {
@@ -181,10 +182,11 @@ pub fn input_key<'a>(
             }
         }
     }
+    let kept = n as u16;
     Handled {
         refusal: 0,
         rounds: rounds,
         state: s,
-        trailed: number::narrow(n),
+        trailed: kept,
     }
 }

@@ -1,29 +1,30 @@
 // The modal machine by value: each call takes a machine and hands back the machine after it, with the answer. A refused call
 // hands back the machine before it.
-use crate::context::Context;
-use crate::context::Override;
 use crate::key;
-use crate::mode;
-use crate::number;
-use crate::pair::Pair;
-use crate::state::State;
-use crate::tables::TableWords;
-use crate::tables::Tables;
-use crate::tracker;
 use keygraph::find::Found;
 use keygraph::graph::Answer;
 use keygraph::graph::Graph;
+use keygraph::number;
 use keygraph::path::EdgePath;
 use keygraph::step::Step;
+use keypairs::context::Context;
+use keypairs::context::Override;
+use keypairs::mode;
+use keypairs::pair::Pair;
+use keypairs::state::State;
+use keypairs::tables::TableWords;
+use keypairs::tables::Tables;
+use keypairs::tracker;
 ghost use mathlib.Core.Path.{_≡_};
-ghost use mathlib.Core.List.{map};
-ghost use Prim.Native.Nat.{_≤_};
-ghost use lib.ListN.{length};
+ghost use Prim.Native.Nat.{_+_, _≤_};
+ghost use lib.ListN.{length, drop};
+ghost use lib.Seq.{paste};
 ghost use Rattle.rules.specs.Tables.{noTables};
 ghost use Rattle.rules.specs.Calls.{graphKind, call, fresh, mode-call, Open, Map, Prefix, Press, Pop, Repeats, Reset, FindFits, HintFits};
 ghost use Rattle.keyparts.specs.View.{wholePath, wholeStep, chosenOf, foundOf};
 ghost use Rattle.keygraph.specs.View.{answerOf};
-ghost use Rattle.keymachine.specs.Views.{trackersOf, broke, overOf, wholeTables, machineOf, pressOf, popOf};
+ghost use Rattle.keypairs.specs.Views.{overOf, wholeTables};
+ghost use Rattle.keymachine.specs.Views.{machineOf, pressOf, popOf};
 
 // The map (graph and tables) and the live state. The queue, the sequences and the trail are words; `trailed` keys are on
 // the trail.
@@ -65,16 +66,14 @@ pub struct Popped {
     pub answer: Waiting,
 }
 
-// Every sequence is broken.
-fn break_all(sequences: &mut [u64])
-    requires { ⌜ length (now sequences) ≡ 520 ⌝ }
-    ensures { λ _. ⌜ trackersOf (now (sequences .exit)) ≡ map broke (trackersOf (now (sequences .entry))) ⌝ }
+// n words of src, from the place `from` on, go to dst from the place `to` on.
+fn copy(dst: &mut [u64], to: usize, src: &[u64], from: usize, n: usize)
+    requires { ⌜ (to + n ≤ length (now dst)) × (from + n ≤ length (now src)) ⌝ }
+    ensures { λ _. ⌜ now (dst .exit) ≡ paste (now (dst .entry)) to (drop from (now (src .entry))) n ⌝ }
 {
     let mut i = 0usize;
-    while i < 8 {
-        let start = i * 65;
-        let end = start + 65;
-        tracker::break_off(&mut sequences[start..end]);
+    while i < n {
+        dst[to + i] = src[from + i];
         i = i + 1;
     }
 }
@@ -216,22 +215,23 @@ impl ModalMachine {
         ensures { λ r. ⌜ (machineOf (r .machine), popOf (r .answer)) ≡ call graphKind (machineOf self) Pop ⌝ }
     {
         let s = self.state;
-        let n = number::least(s.queued, 256);
+        let n = number::least_of(s.queued, 256);
         if n == 0 {
             return Popped {
                 machine: self,
                 answer: Waiting::Nothing,
             };
         }
+        let rest = n - 1;
         let old = self.queue;
         let mut queue = old;
-        number::copy(&mut queue, 0, &old, 1, n - 1);
+        copy(&mut queue, 0, &old, 1, rest as usize);
         let context = s.context;
         let t = State {
             place: s.place,
             mode: s.mode,
             context: context,
-            queued: number::narrow(n - 1),
+            queued: rest,
         };
         let pair = Pair::unpack(old[0]);
         let mut m = self;
@@ -251,7 +251,7 @@ impl ModalMachine {
         let mut broken = self.sequences;
         let sizes = self.tables.sizes;
         let s = self.state;
-        break_all(&mut broken);
+        tracker::break_all(&mut broken);
         let r = mode::goto_mode(
             &self.tables.modes,
             &self.tables.rules,
@@ -290,11 +290,10 @@ impl ModalMachine {
         }
         let s = self.state;
         let mut sequences = self.sequences;
-        let start = (sequence as usize) * 65;
-        let end = start + 65;
-        let n = tracker::fetch(&mut sequences[start..end], over);
-        let k = number::least(s.queued, 256);
-        if 256 < n + k {
+        let n = tracker::fetch_at(&mut sequences, sequence, over);
+        let k = number::least_of(s.queued, 256);
+        let queued = n + k;
+        if 256 < queued {
             return Settled {
                 machine: self,
                 answer: Answer::Refused(5),
@@ -302,14 +301,16 @@ impl ModalMachine {
         }
         let old = self.queue;
         let mut queue = old;
-        number::copy(&mut queue, n, &old, 0, k);
-        number::copy(&mut queue, 0, &sequences, start + 1, n);
+        let count = n as usize;
+        let start = (sequence as usize) * 65 + 1;
+        copy(&mut queue, count, &old, 0, k as usize);
+        copy(&mut queue, 0, &sequences, start, count);
         let context = s.context;
         let t = State {
             place: s.place,
             mode: s.mode,
             context: context,
-            queued: number::narrow(n + k),
+            queued: queued,
         };
         let mut m = self;
         m.queue = queue;

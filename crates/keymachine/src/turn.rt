@@ -1,5 +1,4 @@
 // One round: a following of the graph, the event hook, and what is to be done at the place come to.
-use crate::state::State;
 use keygraph::edge;
 use keygraph::follow;
 use keygraph::follow::FollowResult;
@@ -8,6 +7,7 @@ use keygraph::node;
 use keygraph::node::Node;
 use keygraph::node::NodeAction;
 use keygraph::step::Step;
+use keypairs::state::State;
 ghost use mathlib.Core.Path.{_≡_};
 ghost use mathlib.Core.List.{List};
 ghost use lib.ListN.{length};

@@ -20,7 +20,7 @@ use Rattle.keygraph.specs.View.{resultBy}
 use Rattle.keygraph.specs.declared.graph.Answer.{Answer}
 use Rattle.keygraph.specs.declared.graph.Answer.the-variants.{Accepted, Refused}
 use Rattle.mapfile.specs.declared.cursor.Cursor.{Cursor}
-use Rattle.keymachine.specs.Views.{outcome}
+use Rattle.keypairs.specs.Views.{outcome}
 use Rattle.mapfile.specs.View.{cursorOf, with, Reads, Comes, machineBy}
 
 -- ---- coming to an answer

@@ -11,8 +11,8 @@ use Rattle.rules.specs.Tables.{ModeEntry}
 use Rattle.rules.specs.MapFile.{Reader, give, upTo, optional, readOptionalMode}
 use Rattle.keyparts.specs.View.{fit, fourOf, optOf}
 use Rattle.keyparts.proofs.Ranges.{fit-take}
-use Rattle.keymachine.specs.Views.{ruleOf, entryOf, blocks}
-use Rattle.keymachine.proofs.Lists.{length-blocks}
+use Rattle.keypairs.specs.Views.{ruleOf, entryOf, blocks}
+use Rattle.keypairs.proofs.Lists.{length-blocks}
 use Rattle.mapfile.specs.View.{Reads}
 use Rattle.mapfile.proofs.Reading.{Left, then, gives}
 use Rattle.mapfile.proofs.Parts.{stored}

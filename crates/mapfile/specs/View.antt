@@ -17,7 +17,7 @@ use Rattle.rules.specs.Graph.{Graph}
 use Rattle.rules.specs.KeyLoop.{State}
 use Rattle.rules.specs.Calls.{Machine, graphKind, fresh}
 use Rattle.keygraph.specs.View.{resultBy, graphIn}
-use Rattle.keymachine.specs.Views.{outcome, tablesOf}
+use Rattle.keypairs.specs.Views.{outcome, tablesOf}
 use Rattle.mapfile.specs.declared.cursor.Cursor.{Cursor}
 use Rattle.mapfile.specs.declared.bind.Bound.{Bound}
 use Rattle.mapfile.specs.declared.map.MapRead.{MapRead}

@@ -5,7 +5,7 @@ ghost use mathlib.Core.Path.{_≡_};
 ghost use Prim.Native.Nat.{_+_, _≤_, min};
 ghost use lib.ListN.{length};
 ghost use Rattle.rules.specs.Run.{pairBytes};
-ghost use Rattle.keymachine.specs.Views.{pairOf, pairsOf};
+ghost use Rattle.keypairs.specs.Views.{pairOf, pairsOf};
 ghost use Rattle.mapfile.specs.View.{laid, bytesOfPair};
 
 fn least(n: u16, most: usize) -> usize

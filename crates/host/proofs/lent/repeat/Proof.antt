@@ -2,14 +2,15 @@
 use mathlib.Core.Path.{_≡_}
 use Rattle.keymachine.specs.declared.machine.ModalMachine.{ModalMachine}
 use Prim.Native.Nat.{ℕ}
-use Rattle.keymachine.specs.declared.context.Override.{Override}
+use Rattle.keypairs.specs.declared.context.Override.{Override}
 use Rattle.keygraph.specs.declared.graph.Answer.{Answer}
 use denote.Triple.Spec.{tripleOf}
 use denote.Triple.Table.{entered, cited}
 use contract.Running.{givenOf, tables, tablesOf}
 use Rattle.rules.specs.Calls.{graphKind, call, Repeats}
 use Rattle.keygraph.specs.View.{answerOf}
-use Rattle.keymachine.specs.Views.{machineOf, overOf}
+use Rattle.keypairs.specs.Views.{overOf}
+use Rattle.keymachine.specs.Views.{machineOf}
 use Rattle.lending.proofs.Walk2.{Method, meets}
 use Rattle.host.proofs.Types.{settled, u16, over}
 use Rattle.keymachine.proofs.machine.ModalMachine.repeat.Symbol as method

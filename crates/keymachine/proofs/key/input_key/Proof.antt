@@ -10,9 +10,11 @@ use Rattle.rules.specs.Basics.{Result}
 use Rattle.rules.specs.KeyLoop.{State, KeyResult, loop, inputKey}
 use Rattle.keyparts.specs.View.{stepOf, classesOf, edgesOf}
 use Rattle.keygraph.specs.View.{graphIn, edgeWords}
+use Rattle.keypairs.specs.Views.{tablesOf, stateOf}
+use Rattle.keypairs.proofs.Lists.{outcome-ok, outcome-no}
 use Rattle.keymachine.specs.declared.turn.InputResult.{InputResult}
-use Rattle.keymachine.specs.Views.{linkNavigator, outcome, tablesOf, stateOf, resultBy, keyOf}
-use Rattle.keymachine.proofs.Lists.{take-min, outcome-ok, outcome-no}
+use Rattle.keymachine.specs.Views.{linkNavigator, resultBy}
+use Rattle.keymachine.proofs.Lists.{take-min}
 use Rattle.keymachine.proofs.Stack.{weight, weight-most, drop-put}
 use Rattle.keymachine.proofs.Navigators.{step-same, unmapped-same}
 use Rattle.keymachine.proofs.Loop.{Round, Held, Lens, lens-zero, take-more, back-none, back-some, held-start, held-pop, held-done, held-from, held-anew, held-room, held-out, met-again, met-clear, met-consumed, met-more, met-full, met-big, met-unmapped, met-unmapped-refused, met-step, met-step-refused, met-retry, met-retry-refused}
@@ -49,10 +51,10 @@ least-requires c κs = search needs
 
 keys-holds : tie.Need-keys-holds Inv-loop μ-loop Inv-keys μ-keys
 keys-holds c = let a = c .before .before .before .before .args in let p = c .before .before .before .before .pre in (
-  rw (take-min (a .trailed) 64 (a .trail .now) (c .least .result) (p .1 .2) (c .least .ensures .0))
+  rw (take-min (a .trailed) 64 (a .trail .now) (c .least .result) (p .1 .2) (c .least .ensures))
       (held-start (linkNavigator (a .words .now) (a .counts) (a .links .now)) (a .budget) (a .first) (stateOf (a .start) (tablesOf (a .sizes) (a .classes .now) (a .modes .now) (a .rules .now)) (a .queue .now) (a .sequences .now) (take (a .trailed) (a .trail .now))) (replicate 130 0) refl
       (omega (arith, weight-most (a .trailed) (a .trail .now), length-take (a .trailed) (a .trail .now)))),
-  record { queues = p .1 .0; tracked = p .1 .1; trails = p .1 .2; room = c .least .ensures .1 },
+  record { queues = p .1 .0; tracked = p .1 .1; trails = p .1 .2; room = omega (arith, c .least .ensures) },
 )
 
 mul-key : tie.Need-mul-key Inv-loop μ-loop Inv-keys μ-keys
@@ -280,11 +282,11 @@ loop-again-4 c = let a = c .before .before .before .before .before .before .befo
   search needs,
 )
 
-narrow-requires : tie.Need-narrow-requires Inv-loop μ-loop Inv-keys μ-keys
-narrow-requires c κs = search needs
+cast-kept : tie.Need-cast-kept Inv-loop μ-loop Inv-keys μ-keys
+cast-kept c = omega (arith, c .before .keys .inv .1 .room)
 
 returns-6 : tie.Need-returns-6 Inv-loop μ-loop Inv-keys μ-keys
-returns-6 c = let O = c .before .before .keys in ((O .inv .1 .queues, O .inv .1 .tracked, O .inv .1 .trails), rw (c .narrow .ensures) (sym (held-done (O .inv .0) (search needs))))
+returns-6 c = let O = c .before .keys in ((O .inv .1 .queues, O .inv .1 .tracked, O .inv .1 .trails), sym (held-done (O .inv .0) (search needs)))
 
 pub input-key-spec : {M : Type 1} → statement M
 input-key-spec =
@@ -350,5 +352,5 @@ input-key-spec =
     returns-5
     loop-less-4
     loop-again-4
-    narrow-requires
+    cast-kept
     returns-6)

@@ -2,7 +2,8 @@
 use mathlib.Core.Path.{_≡_, refl, sym, ap, _∙_}
 use Rattle.keyparts.specs.View.{nodeOf, eventOf, followOf, nodesOf, edgesOf, classesOf, reached, followLinks}
 use Rattle.keygraph.specs.View.{graphIn, edgeWords, headWords, actWords}
-use Rattle.keymachine.specs.Views.{sharedOf, resultBy, contextOf}
+use Rattle.keypairs.specs.Views.{sharedOf, contextOf}
+use Rattle.keymachine.specs.Views.{resultBy}
 use Rattle.keymachine.proofs.Rounds.{by-result, by-state, falls-result, falls-state, stuck-result, stuck-state}
 use borrow.Author.Needs.{needs}
 use Rattle.keymachine.proofs.turn.turn.Statement.{statement}

@@ -5,7 +5,7 @@ use mathlib.Core.Path.{_≡_, sym}
 use mathlib.Core.List.{map}
 use lib.ListN.{length, take, length-set}
 use Rattle.rules.specs.MapFile.{times, readMode}
-use Rattle.keymachine.specs.Views.{entryOf, blocks}
+use Rattle.keypairs.specs.Views.{entryOf, blocks}
 use Rattle.mapfile.specs.View.{cursorOf}
 use Rattle.mapfile.proofs.Reading.{Left, left-all, left-none, then, as-made}
 use Rattle.mapfile.proofs.TableWords.{row-stored, all-taken}

@@ -2,7 +2,8 @@
 use mathlib.Core.Path.{_≡_, refl}
 use Rattle.rules.specs.Tables.{noTables}
 use Rattle.rules.specs.Calls.{fresh, graphKind}
-use Rattle.keymachine.specs.Views.{machineOf, wholeTables, wordsOf}
+use Rattle.keypairs.specs.Views.{wholeTables, wordsOf}
+use Rattle.keymachine.specs.Views.{machineOf}
 use Rattle.keymachine.proofs.Calls.{opened, not-opened, withTables, retabled}
 use borrow.Author.Needs.{needs}
 use Rattle.keymachine.proofs.machine.ModalMachine.open.Statement.{statement}

@@ -1,0 +1,15 @@
+// What a machine keeps and is opened with: contexts and pairs, the sequences that remember pairs, the queue of waiting pairs,
+// the tables, and entering a mode with what it gives. Every function is proved equal to the definition of crates/rules/specs
+// that has its name, by the views of specs/Views.antt.
+//
+// The queue and the sequences are arrays of words that are lent to the functions below and changed in place.
+pub mod context;
+pub mod mode;
+pub mod pair;
+mod queue;
+pub mod rule;
+pub mod state;
+pub mod step;
+pub mod tables;
+pub mod tracker;
+mod word;

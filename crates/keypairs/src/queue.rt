@@ -1,0 +1,92 @@
+// The queue of waiting pairs: pushing them, with the sequence rules of the entered mode.
+use crate::context::Context;
+use crate::pair::Pair;
+use crate::rule;
+use crate::tables::Actions;
+use keygraph::number;
+ghost use mathlib.Core.Path.{_≡_};
+ghost use mathlib.Core.List.{List};
+ghost use Prim.Native.Nat.{ℕ};
+ghost use lib.ListN.{length};
+ghost use Rattle.rules.specs.Values as v;
+ghost use Rattle.rules.specs.Tables.{ClassEntry, ModeEntry};
+ghost use Rattle.rules.specs.KeyLoop as key;
+ghost use Rattle.keypairs.specs.Views.{outcome, actionsBy, contextOf, pairBy, pairsOf, trackersOf, rulesOf, tables, shared};
+
+// The number of a refusal, or 0 and how many pairs wait then.
+pub struct Pushed {
+    pub refusal: u16,
+    pub queued: u16,
+}
+
+// A pair goes to the sequences by the rules of the mode, and then behind the queue.
+pub(crate) fn push(
+    rules: &[u64],
+    ruled: u16,
+    queue: &mut [u64; 256],
+    sequences: &mut [u64; 520],
+    queued: u16,
+    mode: u16,
+    pair: Pair,
+) -> Pushed
+    requires { ⌜ (length (now queue) ≡ 256) × (length (now sequences) ≡ 520) ⌝ }
+    ensures { λ _. ⌜ (length (now (queue .exit)) ≡ 256) × (length (now (sequences .exit)) ≡ 520) ⌝ }
+    ensures { λ r. ⌜ ((cs : List ClassEntry) (ms : List ModeEntry) (x : v.Context) (tr : List ℕ) → outcome (r .refusal) (shared (tables cs ms (rulesOf ruled (now (rules .entry)))) mode x (pairsOf (r .queued) (now (queue .exit))) tr (trackersOf (now (sequences .exit)))) ≡ key.push (pairBy pair) (shared (tables cs ms (rulesOf ruled (now (rules .entry)))) mode x (pairsOf queued (now (queue .entry))) tr (trackersOf (now (sequences .entry))))) ⌝ }
+{
+    let w = pair.pack();
+    let e = rule::apply_rules(rules, ruled, sequences, mode, w);
+    if e != 0 {
+        return Pushed {
+            refusal: e,
+            queued: queued,
+        };
+    }
+    let n = queued as usize;
+    if n < 256 {
+        queue[n] = w;
+        return Pushed {
+            refusal: 0,
+            queued: (n + 1) as u16,
+        };
+    }
+    Pushed {
+        refusal: 5,
+        queued: queued,
+    }
+}
+
+// A pair for each of the actions, all with one context.
+pub(crate) fn push_all(
+    rules: &[u64],
+    ruled: u16,
+    queue: &mut [u64; 256],
+    sequences: &mut [u64; 520],
+    queued: u16,
+    mode: u16,
+    actions: Actions,
+    context: Context,
+) -> Pushed
+    requires { ⌜ (length (now queue) ≡ 256) × (length (now sequences) ≡ 520) ⌝ }
+    ensures { λ _. ⌜ (length (now (queue .exit)) ≡ 256) × (length (now (sequences .exit)) ≡ 520) ⌝ }
+    ensures { λ r. ⌜ ((cs : List ClassEntry) (ms : List ModeEntry) (x : v.Context) (tr : List ℕ) → outcome (r .refusal) (shared (tables cs ms (rulesOf ruled (now (rules .entry)))) mode x (pairsOf (r .queued) (now (queue .exit))) tr (trackersOf (now (sequences .exit)))) ≡ key.pushAll (actionsBy actions) (contextOf context) (shared (tables cs ms (rulesOf ruled (now (rules .entry)))) mode x (pairsOf queued (now (queue .entry))) tr (trackersOf (now (sequences .entry))))) ⌝ }
+{
+    let n = number::least(actions.count, 4);
+    let mut held = queued;
+    let mut i = 0usize;
+    while i < n {
+        let pair = Pair {
+            action: actions.items[i],
+            context: context,
+        };
+        let r = push(rules, ruled, queue, sequences, held, mode, pair);
+        if r.refusal != 0 {
+            return r;
+        }
+        held = r.queued;
+        i = i + 1;
+    }
+    Pushed {
+        refusal: 0,
+        queued: held,
+    }
+}
