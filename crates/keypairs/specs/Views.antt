@@ -90,6 +90,10 @@ blocks k (suc n) ws = take k ws ∷ blocks k n (drop k ws)
 abbrev pub trackersOf : List ℕ → List key.Tracker
 trackersOf ws = map trackerOf (blocks 65 8 ws)
 
+-- a sequence after fetching it, and how many pairs it has
+abbrev pub fetchedBy : Option v.Context → key.Tracker → key.Tracker × ℕ
+fetchedBy o t = (key.fetch o t, length (t .pairs))
+
 -- the sequences after fetching one of them, and how many pairs that one has; for a number past the end, nothing and 0
 abbrev pub fetchedAt : ℕ → Option v.Context → List key.Tracker → List key.Tracker × ℕ
 fetchedAt q o ts = (set ts q (key.fetch o (getD ts q key.noTracker)), length (getD ts q key.noTracker .pairs))

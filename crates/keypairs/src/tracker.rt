@@ -11,7 +11,7 @@ ghost use lib.ListN.{length, set};
 ghost use Rattle.rules.specs.Tables as t;
 ghost use Rattle.rules.specs.KeyLoop as key;
 ghost use Rattle.keygraph.specs.View.{answerOf};
-ghost use Rattle.keypairs.specs.Views.{outcome, pairOf, pairBy, trackerOf, trackerBy, trackersOf, statusBy, broke, overOf, fetchedAt, settledBy};
+ghost use Rattle.keypairs.specs.Views.{outcome, pairOf, pairBy, trackerOf, trackerBy, trackersOf, statusBy, broke, overOf, fetchedBy, fetchedAt, settledBy};
 
 pub enum Status {
     Atom,
@@ -219,7 +219,7 @@ impl SequenceTracker {
     }
 
     pub fn fetch(self, over: Override) -> Fetched
-        ensures { λ r. ⌜ (trackerBy (r .tracker) ≡ key.fetch (overOf over) (trackerBy self)) × (r .answer ≡ length (trackerBy self .pairs)) ⌝ }
+        ensures { λ r. ⌜ (trackerBy (r .tracker), r .answer) ≡ fetchedBy (overOf over) (trackerBy self) ⌝ }
     {
         let mut words = self.words;
         let n = fetch(&mut words, over);
