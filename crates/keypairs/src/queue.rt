@@ -6,8 +6,8 @@ use crate::tables::Actions;
 use keygraph::number;
 ghost use mathlib.Core.Path.{_≡_};
 ghost use mathlib.Core.List.{List};
-ghost use Prim.Native.Nat.{ℕ};
-ghost use lib.ListN.{length};
+ghost use Prim.Native.Nat.{ℕ, _<_};
+ghost use lib.ListN.{length, getD};
 ghost use Rattle.rules.specs.Values as v;
 ghost use Rattle.rules.specs.Tables.{ClassEntry, ModeEntry};
 ghost use Rattle.rules.specs.KeyLoop as key;
@@ -55,6 +55,19 @@ pub(crate) fn push(
     }
 }
 
+impl Actions {
+    // The pair of one of the actions: whichever it is, it carries the context that was taken for all.
+    fn pair(self, i: usize, context: Context) -> Pair
+        requires { ⌜ i < 4 ⌝ }
+        ensures { λ r. ⌜ pairBy r ≡ record { action = getD (self .items) i 0; context = contextOf context } ⌝ }
+    {
+        Pair {
+            action: self.items[i],
+            context: context,
+        }
+    }
+}
+
 // A pair for each of the actions, all with one context.
 pub(crate) fn push_all(
     rules: &[u64],
@@ -74,10 +87,7 @@ pub(crate) fn push_all(
     let mut held = queued;
     let mut i = 0usize;
     while i < n {
-        let pair = Pair {
-            action: actions.items[i],
-            context: context,
-        };
+        let pair = actions.pair(i, context);
         let r = push(rules, ruled, queue, sequences, held, mode, pair);
         if r.refusal != 0 {
             return r;
