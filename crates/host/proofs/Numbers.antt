@@ -6,9 +6,9 @@ use Rattle.rules.specs.Tables.{Tables, noTables}
 use Rattle.rules.specs.Graph.{Graph}
 use Rattle.rules.specs.Calls.{Machine, graphKind, fresh, settled, Answer}
 use Rattle.rules.specs.MapFile.{readMap}
-use Rattle.keygraph.specs.declared.graph.Answer as graph
-use Rattle.keygraph.specs.declared.graph.Answer.the-variants.{Accepted, Refused}
-use Rattle.keygraph.specs.View.{resultBy}
+use Rattle.keyparts.specs.declared.answer.Answer as parts
+use Rattle.keyparts.specs.declared.answer.Answer.the-variants.{Accepted, Refused}
+use Rattle.keyparts.specs.View.{resultBy}
 use Rattle.keymachine.proofs.Calls.{withTables, retabled}
 use Rattle.mapfile.specs.View.{machineBy}
 use Rattle.host.specs.Codes.{codeOf, coded, openMap}
@@ -20,7 +20,7 @@ numbered m a n y e en = ap (λ (k : ℕ). (m, k)) en ∙ ap coded e
 pub remade : (s : Machine graphKind) (g : Graph) (t : Tables) → s ≡ fresh graphKind noTables → machineBy g (withTables s t .state) ≡ machineBy g (fresh graphKind t .state)
 remade s g t e = ap (λ (x : Machine graphKind). machineBy g (x .state)) (retabled s noTables t t e refl)
 
-module _ (m x : Machine graphKind) (a : graph.Answer) (bs : List ℕ) (e : resultBy a x ≡ readMap bs) where
+module _ (m x : Machine graphKind) (a : parts.Answer) (bs : List ℕ) (e : resultBy a x ≡ readMap bs) where
   -- a map that is refused leaves the machine
   pub refused : (n : ℕ) → a ≡ Refused n → (m, n) ≡ coded (openMap m bs)
   unfolding settled

@@ -5,8 +5,8 @@ use denote.Struct.Laws.{u16-laws, u16-plain, u64-laws, u64-plain, bool-laws, boo
 use Rattle.lending.proofs.Walks.{Data, Both}
 use Rattle.keyparts.proofs.find.Found as Found
 use Rattle.keyparts.proofs.find.Found.Laws as Found′
-use Rattle.keygraph.proofs.graph.Answer as Answer
-use Rattle.keygraph.proofs.graph.Answer.Laws as Answer′
+use Rattle.keyparts.proofs.answer.Answer as Answer
+use Rattle.keyparts.proofs.answer.Answer.Laws as Answer′
 use Rattle.keyparts.proofs.path.EdgePath as EdgePath
 use Rattle.keyparts.proofs.path.EdgePath.Laws as EdgePath′
 use Rattle.keyparts.proofs.step.Step as Step

@@ -1,5 +1,5 @@
 // The calls that C makes, by value, with their answers as numbers: an enum does not go to C.
-use keygraph::graph::Answer;
+use keygraph::answer::Answer;
 use keygraph::graph::Graph;
 use keymachine::machine::ModalMachine;
 use keymachine::machine::Pressed;
@@ -9,7 +9,7 @@ use mapfile::map;
 use mapfile::map::MapRead;
 ghost use mathlib.Core.Path.{_≡_};
 ghost use Rattle.rules.specs.Calls.{graphKind, call, Press, Pop, Reset};
-ghost use Rattle.keygraph.specs.View.{answerOf};
+ghost use Rattle.keyparts.specs.View.{answerOf};
 ghost use Rattle.keymachine.specs.Views.{machineOf, pressOf, popOf};
 ghost use Rattle.mapfile.specs.View.{mapOf};
 ghost use Rattle.host.specs.Codes.{codeOf, coded, openMap};

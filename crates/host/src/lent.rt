@@ -1,7 +1,7 @@
 // One machine, lent to each call. The call is made by value on what is lent, the machine that it hands back is stored, and
 // its answer is returned. So a refused call leaves the machine as it was.
+use keygraph::answer::Answer;
 use keygraph::find::Found;
-use keygraph::graph::Answer;
 use keygraph::path::EdgePath;
 use keygraph::step::Step;
 use keymachine::context::Override;
@@ -10,8 +10,7 @@ use keymachine::machine::Pressed;
 use keymachine::machine::Waiting;
 ghost use mathlib.Core.Path.{_≡_};
 ghost use Rattle.rules.specs.Calls.{graphKind, call, mode-call, Map, Prefix, Press, Pop, Repeats, Reset, FindFits, HintFits};
-ghost use Rattle.keyparts.specs.View.{wholePath, wholeStep, chosenOf, foundOf};
-ghost use Rattle.keygraph.specs.View.{answerOf};
+ghost use Rattle.keyparts.specs.View.{wholePath, wholeStep, chosenOf, foundOf, answerOf};
 ghost use Rattle.keypairs.specs.Views.{overOf};
 ghost use Rattle.keymachine.specs.Views.{machineOf, pressOf, popOf};
 

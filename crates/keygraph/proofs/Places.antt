@@ -9,8 +9,8 @@ use lib.Seq.{take-set-lt, take-set-le, drop-set-lt, drop-set-add}
 use Rattle.rules.specs.Basics.{accept, refuse}
 use Rattle.rules.specs.Graph.{Graph, addEdge, addNode, settle}
 use Rattle.keygraph.specs.declared.graph.Counts.{Counts}
-use Rattle.keyparts.specs.View.{eventAt, nodeAt, nodesOf, edgesOf, find, keyIs}
-use Rattle.keygraph.specs.View.{graphFrom, graphIn, edgeWords, headWords, actWords}
+use Rattle.keyparts.specs.View.{eventAt, nodeAt, nodesOf, edgesOf, find, keyIs, edgeWords, headWords, actWords}
+use Rattle.keygraph.specs.View.{graphFrom, graphIn}
 use Rattle.keyparts.proofs.Finds.{find-most, edge-replaced, edge-appended, edge-full}
 use Rattle.keyparts.proofs.Nodes.{node-added, node-full, settle-set, settle-out, settle-other}
 

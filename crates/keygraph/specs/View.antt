@@ -1,36 +1,23 @@
 -- What a graph's words and a call's answer mean in the values of the rules.
 use Prim.Native.Nat.{ℕ}
 use mathlib.Core.List.{List}
-use lib.ListN.{take, drop, set, getD}
+use lib.ListN.{set, getD}
 use Rattle.rules.specs.Basics.{Result, accept, refuse}
 use Rattle.rules.specs.Graph as g
 use Rattle.rules.specs.Calls as c
-use Rattle.keyparts.specs.View.{nodesOf, edgesOf, graphBy}
+use Rattle.keyparts.specs.View.{nodesOf, edgesOf, edgeWords, headWords, actWords, graphBy, answerOf}
 use Rattle.keyparts.specs.declared.node.Packed.{Packed}
 use Rattle.keyparts.specs.declared.path.EdgePath.{EdgePath}
 use Rattle.keyparts.specs.declared.path.EdgePathPart.{EdgePathPart}
 use Rattle.keyparts.specs.declared.event.EdgeRepeat.the-variants.{Once}
 use Rattle.keyparts.specs.declared.event.EdgeEvent.the-variants.{Key}
 use Rattle.keygraph.specs.declared.graph.Counts.{Counts}
-use Rattle.keygraph.specs.declared.graph.Answer.{Answer}
-use Rattle.keygraph.specs.declared.graph.Answer.the-variants.{Accepted, Refused}
 use Rattle.keygraph.specs.declared.graph.Graph.{Graph}
 use Rattle.keygraph.specs.declared.graph.Added.{Added}
 
 -- the graph in heads, acts and edges
 abbrev pub graphFrom : List ℕ → List ℕ → List ℕ → Counts → g.Graph
 graphFrom hs ws es k = graphBy (nodesOf hs ws (k .nodes)) (edgesOf es (k .edges))
-
--- ---- a graph's words: the edges', the nodes' first words, the nodes' second words
-
-unfoldable pub edgeWords : List ℕ → List ℕ
-edgeWords ws = take 2048 ws
-
-unfoldable pub headWords : List ℕ → List ℕ
-headWords ws = take 1040 (drop 2048 ws)
-
-unfoldable pub actWords : List ℕ → List ℕ
-actWords ws = take 1040 (drop 3088 ws)
 
 abbrev pub graphIn : List ℕ → Counts → g.Graph
 graphIn ws k = graphFrom (headWords ws) (actWords ws) (edgeWords ws) k
@@ -48,15 +35,6 @@ abbrev pub partAt : EdgePath → ℕ → EdgePathPart
 partAt p i = getD (p .parts) i (record { repeat = Once; event = Key 0 })
 
 -- ---- answers
-
-abbrev pub answerOf : Answer → c.Answer
-answerOf Accepted = c.Accepted
-answerOf (Refused n) = c.Refused n
-
--- a value with an answer: a refusal carries no value
-abbrev pub resultBy : {A : Type 0} → Answer → A → Result A
-resultBy Accepted a = accept a
-resultBy (Refused n) a = refuse n
 
 abbrev pub addedOf : Added → g.Graph × c.Answer
 addedOf r = (graphOf (r .graph), answerOf (r .answer))

@@ -1,8 +1,10 @@
 // A graph by value, over the functions that work on its words.
 use crate::parts;
+use keyparts::answer::Answer;
 use keyparts::find;
 use keyparts::find::Found;
 use keyparts::follow::FollowResult;
+use keyparts::node;
 use keyparts::node::Node;
 ghost use mathlib.Core.Path.{_≡_};
 ghost use Rattle.rules.specs.Graph as g;
@@ -15,12 +17,6 @@ ghost use Rattle.keygraph.specs.View.{graphOf};
 pub struct Counts {
     pub nodes: u16,
     pub edges: u16,
-}
-
-// What a call comes to: acceptance, or the number of the refusal.
-pub enum Answer {
-    Accepted,
-    Refused(u16),
 }
 
 // The words of the edges [0, 2048), the nodes' first words [2048, 3088) and their second ones [3088, 4128), and how many
@@ -50,7 +46,7 @@ impl Graph {
     pub fn root(mode: u16) -> u16
         ensures { λ r. ⌜ r ≡ mode ⌝ }
     {
-        mode
+        node::root(mode)
     }
 
     // No binding: the mode roots alone.

@@ -11,6 +11,7 @@ mod parts;
 pub mod prefix;
 mod repeat;
 
+pub use keyparts::answer;
 pub use keyparts::class;
 pub use keyparts::edge;
 pub use keyparts::event;

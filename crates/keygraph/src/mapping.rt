@@ -1,10 +1,10 @@
 // Adding a mapping, in place and by value.
 use crate::cursor::Cursor;
 use crate::graph::Added;
-use crate::graph::Answer;
 use crate::graph::Counts;
 use crate::graph::Graph;
 use crate::repeat;
+use keyparts::answer::Answer;
 use keyparts::event;
 use keyparts::event::EdgeRepeat;
 use keyparts::node::Packed;
@@ -20,8 +20,8 @@ ghost use lib.ListN.{length};
 ghost use Rattle.rules.specs.Basics as b;
 ghost use Rattle.rules.specs.Values as v;
 ghost use Rattle.rules.specs.Graph as g;
-ghost use Rattle.keyparts.specs.View.{eventAt, packedOf, partOf, repeatOf, maybeOf, stepOf, pathOf, wholePath, wholeStep};
-ghost use Rattle.keygraph.specs.View.{graphIn, graphOf, resultBy, settled, addedOf};
+ghost use Rattle.keyparts.specs.View.{eventAt, packedOf, partOf, repeatOf, maybeOf, stepOf, pathOf, wholePath, wholeStep, resultBy};
+ghost use Rattle.keygraph.specs.View.{graphIn, graphOf, settled, addedOf};
 ghost use Rattle.keygraph.specs.Making.{Leads, outcome};
 
 // What a call in place leaves beside the words.

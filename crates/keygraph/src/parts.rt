@@ -13,8 +13,7 @@ ghost use mathlib.Core.List.{List};
 ghost use lib.ListN.{length, take, getD};
 ghost use Rattle.rules.specs.Graph as g;
 ghost use Rattle.rules.specs.Calls.{FindFits};
-ghost use Rattle.keyparts.specs.View.{eventAt, edgesOf, nodesOf, nodeOf, classesOf, followOf, foundOf, graphBy, maybeOf, find, keyIs};
-ghost use Rattle.keygraph.specs.View.{edgeWords, headWords, actWords};
+ghost use Rattle.keyparts.specs.View.{eventAt, edgesOf, nodesOf, nodeOf, classesOf, followOf, foundOf, graphBy, maybeOf, find, keyIs, edgeWords, headWords, actWords};
 
 // Where the edge with this key stands among the first `count`, or their number.
 pub(crate) fn scan(words: &[u64], count: u16, key: u64) -> usize

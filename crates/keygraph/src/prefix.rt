@@ -1,11 +1,11 @@
 // Adding a prefix, in place and by value. A prefix may have a step: `chosen` says so, and else the step beside it is not looked at.
 use crate::cursor::Cursor;
 use crate::graph::Added;
-use crate::graph::Answer;
 use crate::graph::Counts;
 use crate::graph::Graph;
 use crate::mapping::Placed;
 use crate::repeat;
+use keyparts::answer::Answer;
 use keyparts::event;
 use keyparts::event::EdgeRepeat;
 use keyparts::node::Packed;
@@ -22,8 +22,8 @@ ghost use lib.ListN.{length};
 ghost use Rattle.rules.specs.Basics as b;
 ghost use Rattle.rules.specs.Values as v;
 ghost use Rattle.rules.specs.Graph as g;
-ghost use Rattle.keyparts.specs.View.{eventAt, packedOf, partOf, repeatOf, stepOf, pathOf, wholePath, wholeStep, chosenOf, stepsValid};
-ghost use Rattle.keygraph.specs.View.{graphIn, graphOf, resultBy, settled, addedOf};
+ghost use Rattle.keyparts.specs.View.{eventAt, packedOf, partOf, repeatOf, stepOf, pathOf, wholePath, wholeStep, chosenOf, stepsValid, resultBy};
+ghost use Rattle.keygraph.specs.View.{graphIn, graphOf, settled, addedOf};
 ghost use Rattle.keygraph.specs.Making.{Leads, outcome};
 
 impl Cursor {

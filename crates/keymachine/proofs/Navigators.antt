@@ -10,10 +10,10 @@ use Rattle.rules.specs.Tables.{ClassEntry}
 use Rattle.rules.specs.KeyLoop.{State, Turn, Navigator, gotoMode, unmapped, stepTo, step}
 use Rattle.rules.specs.Graph.{Node, followEdge, getNode}
 use Rattle.rules.specs.Calls.{graphNavigator, turnBy}
-use Rattle.keyparts.specs.View.{edgeOf, nodesOf, graphBy, reached, followLinks}
+use Rattle.keyparts.specs.View.{edgeOf, nodesOf, graphBy, reached, followLinks, edgeWords, headWords, actWords}
 use Rattle.keyparts.proofs.Links.{reached-all}
 use Rattle.keygraph.specs.declared.graph.Counts.{Counts}
-use Rattle.keygraph.specs.View.{edgeWords, headWords, actWords, graphIn}
+use Rattle.keygraph.specs.View.{graphIn}
 use Rattle.keymachine.specs.Views.{linkNavigator}
 
 module _ (ws : List ℕ) (k : Counts) (ls : List ℕ) where

@@ -8,9 +8,9 @@ use Rattle.rules.specs.Tables as t
 use Rattle.rules.specs.KeyLoop as key
 use Rattle.rules.specs.Calls as c
 use Rattle.rules.specs.Graph as g
-use Rattle.keyparts.specs.View.{stepOf, reached, followLinks}
+use Rattle.keyparts.specs.View.{stepOf, reached, followLinks, edgeWords}
 use Rattle.keygraph.specs.declared.graph.Counts.{Counts}
-use Rattle.keygraph.specs.View.{edgeWords, graphIn, graphOf}
+use Rattle.keygraph.specs.View.{graphIn, graphOf}
 use Rattle.keypairs.specs.declared.state.State.{State}
 use Rattle.keypairs.specs.Views.{outcome, pairBy, wordsOf, sharedOf, stateOf}
 use Rattle.keymachine.specs.declared.turn.InputResult.{InputResult}

@@ -1,8 +1,8 @@
 // The modal machine by value: each call takes a machine and hands back the machine after it, with the answer. A refused call
 // hands back the machine before it.
 use crate::key;
+use keygraph::answer::Answer;
 use keygraph::find::Found;
-use keygraph::graph::Answer;
 use keygraph::graph::Graph;
 use keygraph::number;
 use keygraph::path::EdgePath;
@@ -21,8 +21,7 @@ ghost use lib.ListN.{length, drop};
 ghost use lib.Seq.{paste};
 ghost use Rattle.rules.specs.Tables.{noTables};
 ghost use Rattle.rules.specs.Calls.{graphKind, call, fresh, mode-call, Open, Map, Prefix, Press, Pop, Repeats, Reset, FindFits, HintFits};
-ghost use Rattle.keyparts.specs.View.{wholePath, wholeStep, chosenOf, foundOf};
-ghost use Rattle.keygraph.specs.View.{answerOf};
+ghost use Rattle.keyparts.specs.View.{wholePath, wholeStep, chosenOf, foundOf, answerOf};
 ghost use Rattle.keypairs.specs.Views.{overOf, wholeTables};
 ghost use Rattle.keymachine.specs.Views.{machineOf, pressOf, popOf};
 

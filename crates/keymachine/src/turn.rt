@@ -14,8 +14,8 @@ ghost use lib.ListN.{length};
 ghost use Rattle.rules.specs.Values as v;
 ghost use Rattle.rules.specs.Graph as g;
 ghost use Rattle.rules.specs.Calls as c;
-ghost use Rattle.keyparts.specs.View.{nodeOf, stepOf, edgesOf, classesOf, graphBy, reached, followLinks};
-ghost use Rattle.keygraph.specs.View.{edgeWords, graphIn};
+ghost use Rattle.keyparts.specs.View.{nodeOf, stepOf, edgesOf, classesOf, graphBy, reached, followLinks, edgeWords};
+ghost use Rattle.keygraph.specs.View.{graphIn};
 ghost use Rattle.keymachine.specs.Views.{resultBy, Turns};
 
 // The step of `RunStep` and `RetryAfter` stands beside the result, since an enum here holds no array.

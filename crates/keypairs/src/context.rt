@@ -1,5 +1,5 @@
 // The context that a key gathers on its way: a count from digits and a mark from Any.
-use keygraph::event::EdgeEvent;
+use keyparts::event::EdgeEvent;
 ghost use mathlib.Core.Path.{_≡_};
 ghost use Prim.Native.Nat.{_+_, _-_, _*_, _≤_, min};
 ghost use Rattle.rules.specs.Values as v;

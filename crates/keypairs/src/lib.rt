@@ -2,7 +2,8 @@
 // the tables, and entering a mode with what it gives. Every function is proved equal to the definition of crates/rules/specs
 // that has its name, by the views of specs/Views.antt.
 //
-// The queue and the sequences are arrays of words that are lent to the functions below and changed in place.
+// The queue and the sequences are arrays of words that are lent to the functions below and changed in place. Of a key graph
+// its parts are read and nothing is added, so the crate stands on those alone.
 pub mod context;
 pub mod mode;
 pub mod pair;

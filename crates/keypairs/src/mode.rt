@@ -6,9 +6,9 @@ use crate::state::State;
 use crate::tables::Actions;
 use crate::tables::ModeEntry;
 use crate::word;
-use keygraph::graph::Graph;
-use keygraph::number;
-use keygraph::step::Maybe;
+use keyparts::node;
+use keyparts::number;
+use keyparts::step::Maybe;
 ghost use mathlib.Core.Path.{_≡_};
 ghost use mathlib.Core.List.{List};
 ghost use mathlib.Core.Option.{Option·getD};
@@ -117,7 +117,7 @@ pub fn goto_mode<'a>(
     Moved {
         refusal: r.refusal,
         state: State {
-            place: Graph::root(mode),
+            place: node::root(mode),
             mode: mode,
             context: zeros,
             queued: r.queued,

@@ -3,7 +3,7 @@ use crate::context::Context;
 use crate::pair::Pair;
 use crate::rule;
 use crate::tables::Actions;
-use keygraph::number;
+use keyparts::number;
 ghost use mathlib.Core.Path.{_≡_};
 ghost use mathlib.Core.List.{List};
 ghost use Prim.Native.Nat.{ℕ, _<_};

@@ -2,7 +2,7 @@
 use crate::tracker;
 use crate::tracker::Status;
 use crate::word;
-use keygraph::number;
+use keyparts::number;
 ghost use mathlib.Core.Path.{_≡_};
 ghost use mathlib.Core.Bool.{true};
 ghost use Prim.Native.Nat.{_<_};

@@ -4,9 +4,9 @@ use crate::mode::Moved;
 use crate::state::Sizes;
 use crate::state::State;
 use crate::tables::Actions;
-use keygraph::node;
-use keygraph::step::Maybe;
-use keygraph::step::Step;
+use keyparts::node;
+use keyparts::step::Maybe;
+use keyparts::step::Step;
 ghost use mathlib.Core.Path.{_≡_};
 ghost use Rattle.rules.specs.Basics.{isThere};
 ghost use mathlib.Core.List.{List};
@@ -18,8 +18,7 @@ ghost use Rattle.rules.specs.Tables as t;
 ghost use Rattle.rules.specs.KeyLoop as key;
 ghost use Rattle.rules.specs.Graph as g;
 ghost use Rattle.rules.specs.Calls.{graphNavigator};
-ghost use Rattle.keyparts.specs.View.{maybeOf, stepOf, nodesOf, graphBy};
-ghost use Rattle.keygraph.specs.View.{headWords, actWords};
+ghost use Rattle.keyparts.specs.View.{maybeOf, stepOf, nodesOf, headWords, actWords, graphBy};
 ghost use Rattle.keypairs.specs.Views.{outcome, rulesOf, modesOf, tables, sharedOf, stateOf};
 
 // The list of the node's mode is given, and its next mode entered; without one, the entered mode anew.

@@ -2,10 +2,10 @@
 // range and makes the words that a machine keeps.
 use crate::rule::Rule;
 use crate::state::Sizes;
-use keygraph::class;
-use keygraph::number;
-use keygraph::step;
-use keygraph::step::Maybe;
+use keyparts::class;
+use keyparts::number;
+use keyparts::step;
+use keyparts::step::Maybe;
 ghost use mathlib.Core.Path.{_≡_};
 ghost use mathlib.Core.Bool.{true, false};
 ghost use mathlib.Core.List.{_∷_, [], map};

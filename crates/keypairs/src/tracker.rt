@@ -3,14 +3,14 @@
 // by its number work on the whole array.
 use crate::context::Override;
 use crate::pair::Pair;
-use keygraph::graph::Answer;
+use keyparts::answer::Answer;
 ghost use mathlib.Core.Path.{_≡_};
 ghost use mathlib.Core.List.{map};
 ghost use Prim.Native.Nat.{_+_, _/_, _%_, _≤_, _<_, min};
 ghost use lib.ListN.{length, set};
 ghost use Rattle.rules.specs.Tables as t;
 ghost use Rattle.rules.specs.KeyLoop as key;
-ghost use Rattle.keygraph.specs.View.{answerOf};
+ghost use Rattle.keyparts.specs.View.{answerOf};
 ghost use Rattle.keypairs.specs.Views.{outcome, pairOf, pairBy, trackerOf, trackerBy, trackersOf, statusBy, broke, overOf, fetchedBy, fetchedAt, settledBy};
 
 pub enum Status {

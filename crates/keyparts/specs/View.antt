@@ -4,11 +4,14 @@ use mathlib.Core.Bool.{Bool, true, false}
 use mathlib.Core.Option.{Option, none, some}
 use mathlib.Core.List.{List, [], _∷_, _++_, map}
 use lib.Dec.{ltb, eqb}
-use lib.ListN.{length, take, replicate, getD}
+use lib.ListN.{length, take, drop, replicate, getD}
 use Rattle.rules.specs.Basics.{if_then_else_, Result, accept, refuse}
 use Rattle.rules.specs.Values as v
 use Rattle.rules.specs.Tables.{ClassEntry, holdsKey, memberships}
 use Rattle.rules.specs.Graph as g
+use Rattle.rules.specs.Calls as calls
+use Rattle.keyparts.specs.declared.answer.Answer.{Answer}
+use Rattle.keyparts.specs.declared.answer.Answer.the-variants.{Accepted, Refused}
 use Rattle.keyparts.specs.declared.event.EdgeEvent.{EdgeEvent}
 use Rattle.keyparts.specs.declared.event.EdgeEvent.the-variants.{Key, Class, Any, Fallthrough}
 use Rattle.keyparts.specs.declared.event.EdgeRepeat.{EdgeRepeat}
@@ -78,6 +81,17 @@ abbrev pub foundOf : Found → Result (Option ℕ)
 foundOf (RefusedFind n) = refuse n
 foundOf (At n) = accept (some n)
 foundOf NothingFound = accept none
+
+-- ---- answers
+
+abbrev pub answerOf : Answer → calls.Answer
+answerOf Accepted = calls.Accepted
+answerOf (Refused n) = calls.Refused n
+
+-- a value with an answer: a refusal carries no value
+abbrev pub resultBy : {A : Type 0} → Answer → A → Result A
+resultBy Accepted a = accept a
+resultBy (Refused n) a = refuse n
 
 -- ---- what a caller hands over
 
@@ -173,6 +187,17 @@ classesOf ws n = map classAt (take n ws)
 
 abbrev pub graphBy : List g.Node → List g.Edge → g.Graph
 graphBy ns es = record { nodes = ns; edges = es }
+
+-- ---- a graph's words: the edges', the nodes' first words, the nodes' second words
+
+unfoldable pub edgeWords : List ℕ → List ℕ
+edgeWords ws = take 2048 ws
+
+unfoldable pub headWords : List ℕ → List ℕ
+headWords ws = take 1040 (drop 2048 ws)
+
+unfoldable pub actWords : List ℕ → List ℕ
+actWords ws = take 1040 (drop 3088 ws)
 
 -- ---- searches
 

@@ -1,7 +1,9 @@
-// The parts of a key graph: events, paths, steps and classes, nodes and edges as words, and what is only read from them:
-// following a key, finding, range tests. Every function is proved equal to the rules by the view of specs/View.antt.
+// The parts of a key graph: events, paths, steps and classes, nodes and edges as words, the answer of a call, and what is
+// only read from them: following a key, finding, range tests. Every function is proved equal to the rules by the view of
+// specs/View.antt.
 //
 // The functions that are called for every key take slices of words and copy nothing.
+pub mod answer;
 pub mod class;
 pub mod edge;
 pub mod event;

@@ -148,6 +148,13 @@ impl Packed {
     }
 }
 
+// The root of a mode.
+pub fn root(mode: u16) -> u16
+    ensures { λ r. ⌜ r ≡ mode ⌝ }
+{
+    mode
+}
+
 // The first word of a node; 0, which is that of an empty node of mode 0, where there is no such node.
 pub fn head_at(heads: &[u64], count: u16, node: u16) -> u64
     ensures { λ r. ⌜ r ≡ getD (take count (now (heads .entry))) node 0 ⌝ }

@@ -16,9 +16,9 @@ use Rattle.rules.specs.Calls.{Machine, graphKind, fresh, withBindings, map-call
 use Rattle.rules.specs.Tables.{Tables}
 use Rattle.rules.specs.Numbers.{number}
 use Rattle.rules.specs.MapFile.{Reader, thenRead, lifted, such, upTo, listOf, readPart, readStep, bindBy, readBinding, readBindings, readTables, readMachine, atEnd, readMap}
-use Rattle.keygraph.specs.View.{resultBy}
-use Rattle.keygraph.specs.declared.graph.Answer.{Answer}
-use Rattle.keygraph.specs.declared.graph.Answer.the-variants.{Accepted, Refused}
+use Rattle.keyparts.specs.View.{resultBy}
+use Rattle.keyparts.specs.declared.answer.Answer.{Answer}
+use Rattle.keyparts.specs.declared.answer.Answer.the-variants.{Accepted, Refused}
 use Rattle.mapfile.specs.declared.cursor.Cursor.{Cursor}
 use Rattle.keypairs.specs.Views.{outcome}
 use Rattle.mapfile.specs.View.{cursorOf, with, Reads, Comes, machineBy}

@@ -16,7 +16,8 @@ use Rattle.rules.specs.Run.{pairBytes}
 use Rattle.rules.specs.Graph.{Graph}
 use Rattle.rules.specs.KeyLoop.{State}
 use Rattle.rules.specs.Calls.{Machine, graphKind, fresh}
-use Rattle.keygraph.specs.View.{resultBy, graphIn}
+use Rattle.keyparts.specs.View.{resultBy}
+use Rattle.keygraph.specs.View.{graphIn}
 use Rattle.keypairs.specs.Views.{outcome, tablesOf}
 use Rattle.mapfile.specs.declared.cursor.Cursor.{Cursor}
 use Rattle.mapfile.specs.declared.bind.Bound.{Bound}

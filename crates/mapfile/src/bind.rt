@@ -2,7 +2,7 @@
 use crate::cursor::Cursor;
 use crate::part;
 use crate::step;
-use keygraph::graph::Answer;
+use keygraph::answer::Answer;
 use keygraph::graph::Counts;
 use keygraph::mapping;
 use keygraph::path::EdgePath;

@@ -2,7 +2,7 @@
 use crate::bind;
 use crate::cursor::Cursor;
 use crate::tables;
-use keygraph::graph::Answer;
+use keygraph::answer::Answer;
 use keygraph::graph::Counts;
 use keygraph::graph::Graph;
 use keymachine::state::Sizes;
@@ -10,7 +10,7 @@ ghost use mathlib.Core.Path.{_≡_};
 ghost use lib.ListN.{drop};
 ghost use Rattle.rules.specs.Calls.{Machine, graphKind};
 ghost use Rattle.rules.specs.MapFile.{atEnd, readMap};
-ghost use Rattle.keygraph.specs.View.{resultBy};
+ghost use Rattle.keyparts.specs.View.{resultBy};
 ghost use Rattle.mapfile.specs.View.{mapOf};
 
 // The words of the graph and of the tables. Refused, only the number counts.

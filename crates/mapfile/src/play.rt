@@ -5,7 +5,7 @@ use crate::map;
 use crate::number;
 use crate::number::Read;
 use crate::pairs;
-use keygraph::graph::Answer;
+use keygraph::answer::Answer;
 use keygraph::graph::Counts;
 use keymachine::context::Context;
 use keymachine::key;

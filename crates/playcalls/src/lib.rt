@@ -5,7 +5,7 @@ mod parts;
 mod print;
 mod tables;
 
-use keygraph::graph::Answer;
+use keygraph::answer::Answer;
 use keymachine::machine::ModalMachine;
 use mapfile::cursor::Cursor;
 

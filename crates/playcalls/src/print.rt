@@ -1,6 +1,6 @@
 // Lines of answers.
+use keygraph::answer::Answer;
 use keygraph::find::Found;
-use keygraph::graph::Answer;
 use keymachine::machine::Pressed;
 use keymachine::machine::Waiting;
 use keymachine::pair::Pair;

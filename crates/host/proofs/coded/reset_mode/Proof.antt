@@ -1,5 +1,5 @@
 -- The machine is the method's, and the number is its answer's.
-use Rattle.keygraph.specs.View.{answerOf}
+use Rattle.keyparts.specs.View.{answerOf}
 use Rattle.keymachine.specs.Views.{machineOf}
 use Rattle.host.proofs.Numbers.{numbered}
 use borrow.Author.Needs.{needs}

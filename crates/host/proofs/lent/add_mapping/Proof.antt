@@ -4,13 +4,12 @@ use Rattle.keymachine.specs.declared.machine.ModalMachine.{ModalMachine}
 use Prim.Native.Nat.{ℕ}
 use Rattle.keyparts.specs.declared.path.EdgePath.{EdgePath}
 use Rattle.keyparts.specs.declared.step.Step.{Step}
-use Rattle.keygraph.specs.declared.graph.Answer.{Answer}
+use Rattle.keyparts.specs.declared.answer.Answer.{Answer}
 use denote.Triple.Spec.{tripleOf}
 use denote.Triple.Table.{entered, cited}
 use contract.Running.{givenOf, tables, tablesOf}
 use Rattle.rules.specs.Calls.{graphKind, call, Map}
-use Rattle.keyparts.specs.View.{wholePath, wholeStep}
-use Rattle.keygraph.specs.View.{answerOf}
+use Rattle.keyparts.specs.View.{wholePath, wholeStep, answerOf}
 use Rattle.keymachine.specs.Views.{machineOf}
 use Rattle.lending.proofs.Walk3.{Method, meets}
 use Rattle.host.proofs.Types.{settled, u16, path, step}

@@ -5,13 +5,12 @@ use Prim.Native.Nat.{ℕ}
 use Rattle.keyparts.specs.declared.path.EdgePath.{EdgePath}
 use mathlib.Core.Bool.{Bool}
 use Rattle.keyparts.specs.declared.step.Step.{Step}
-use Rattle.keygraph.specs.declared.graph.Answer.{Answer}
+use Rattle.keyparts.specs.declared.answer.Answer.{Answer}
 use denote.Triple.Spec.{tripleOf}
 use denote.Triple.Table.{entered, cited}
 use contract.Running.{givenOf, tables, tablesOf}
 use Rattle.rules.specs.Calls.{graphKind, call, Prefix}
-use Rattle.keyparts.specs.View.{wholePath, wholeStep, chosenOf}
-use Rattle.keygraph.specs.View.{answerOf}
+use Rattle.keyparts.specs.View.{wholePath, wholeStep, chosenOf, answerOf}
 use Rattle.keymachine.specs.Views.{machineOf}
 use Rattle.lending.proofs.Walk4.{Method, meets}
 use Rattle.host.proofs.Types.{settled, u16, path, bool, step}

@@ -3,12 +3,12 @@ use mathlib.Core.Path.{_≡_}
 use Rattle.keymachine.specs.declared.machine.ModalMachine.{ModalMachine}
 use Prim.Native.Nat.{ℕ}
 use Rattle.keypairs.specs.declared.context.Override.{Override}
-use Rattle.keygraph.specs.declared.graph.Answer.{Answer}
+use Rattle.keyparts.specs.declared.answer.Answer.{Answer}
 use denote.Triple.Spec.{tripleOf}
 use denote.Triple.Table.{entered, cited}
 use contract.Running.{givenOf, tables, tablesOf}
 use Rattle.rules.specs.Calls.{graphKind, call, Repeats}
-use Rattle.keygraph.specs.View.{answerOf}
+use Rattle.keyparts.specs.View.{answerOf}
 use Rattle.keypairs.specs.Views.{overOf}
 use Rattle.keymachine.specs.Views.{machineOf}
 use Rattle.lending.proofs.Walk2.{Method, meets}

@@ -1,12 +1,12 @@
 -- The machine's `reset_mode` is called on the machine that is lent, by the walk of `Walk0`.
 use mathlib.Core.Path.{_≡_}
 use Rattle.keymachine.specs.declared.machine.ModalMachine.{ModalMachine}
-use Rattle.keygraph.specs.declared.graph.Answer.{Answer}
+use Rattle.keyparts.specs.declared.answer.Answer.{Answer}
 use denote.Triple.Spec.{tripleOf}
 use denote.Triple.Table.{entered, cited}
 use contract.Running.{givenOf, tables, tablesOf}
 use Rattle.rules.specs.Calls.{graphKind, call, Reset}
-use Rattle.keygraph.specs.View.{answerOf}
+use Rattle.keyparts.specs.View.{answerOf}
 use Rattle.keymachine.specs.Views.{machineOf}
 use Rattle.lending.proofs.Walk0.{Method, meets}
 use Rattle.host.proofs.Types.{settled}

@@ -1,5 +1,5 @@
 -- The slices are the parts of the words that the definitions name.
-use Rattle.keygraph.specs.View.{headWords, actWords}
+use Rattle.keyparts.specs.View.{headWords, actWords}
 use borrow.Author.Needs.{needs}
 use Rattle.keygraph.proofs.parts.find_node.Statement.{statement}
 use Rattle.keygraph.proofs.parts.find_node.Tie as tie

@@ -5,9 +5,8 @@ use mathlib.Core.Path.{_∙_, ap}
 use native.Mathlib.Omega.{arith}
 use lib.ListN.{length, take, length-take}
 use Rattle.rules.specs.Graph.{followEdge}
-use Rattle.keyparts.specs.View.{edgeOf, classesOf, graphBy}
+use Rattle.keyparts.specs.View.{edgeOf, classesOf, graphBy, edgeWords}
 use Rattle.keyparts.proofs.Links.{reached-all}
-use Rattle.keygraph.specs.View.{edgeWords}
 use borrow.Author.Needs.{needs}
 use Rattle.keygraph.proofs.parts.follow_edge.Statement.{statement}
 use Rattle.keygraph.proofs.parts.follow_edge.Tie as tie

@@ -1,5 +1,5 @@
 -- The slices are the parts of the words that the definitions name.
-use Rattle.keygraph.specs.View.{headWords}
+use Rattle.keyparts.specs.View.{headWords}
 use borrow.Author.Needs.{needs}
 use Rattle.keygraph.proofs.parts.head_at.Statement.{statement}
 use Rattle.keygraph.proofs.parts.head_at.Tie as tie

@@ -1,5 +1,5 @@
 -- The slices are the parts of the words that the definitions name.
-use Rattle.keygraph.specs.View.{edgeWords}
+use Rattle.keyparts.specs.View.{edgeWords}
 use borrow.Author.Needs.{needs}
 use Rattle.keygraph.proofs.parts.scan.Statement.{statement}
 use Rattle.keygraph.proofs.parts.scan.Tie as tie

@@ -1,6 +1,6 @@
 -- The slice is the part of the words that the definitions name, and the index's links lead as its edges do.
 use borrow.Author.Needs.{needs}
-use Rattle.keygraph.specs.View.{edgeWords}
+use Rattle.keyparts.specs.View.{edgeWords}
 use Rattle.keymachine.proofs.Navigators.{links-lead}
 use Rattle.keymachine.proofs.key.index_of.Statement.{statement}
 use Rattle.keymachine.proofs.key.index_of.Tie as tie

@@ -8,8 +8,8 @@ use lib.ListN.{length, take, drop, getD, set, replicate, length-set, length-take
 use borrow.Author.Needs.{needs}
 use Rattle.rules.specs.Basics.{Result}
 use Rattle.rules.specs.KeyLoop.{State, KeyResult, loop, inputKey}
-use Rattle.keyparts.specs.View.{stepOf, classesOf, edgesOf}
-use Rattle.keygraph.specs.View.{graphIn, edgeWords}
+use Rattle.keyparts.specs.View.{stepOf, classesOf, edgesOf, edgeWords}
+use Rattle.keygraph.specs.View.{graphIn}
 use Rattle.keypairs.specs.Views.{tablesOf, stateOf}
 use Rattle.keypairs.proofs.Lists.{outcome-ok, outcome-no}
 use Rattle.keymachine.specs.declared.turn.InputResult.{InputResult}

@@ -1,7 +1,7 @@
 -- The three ways of following are the clauses of `turnBy`, and the node that was come to tells the rest.
 use mathlib.Core.Path.{_≡_, refl, sym, ap, _∙_}
-use Rattle.keyparts.specs.View.{nodeOf, eventOf, followOf, nodesOf, edgesOf, classesOf, reached, followLinks}
-use Rattle.keygraph.specs.View.{graphIn, edgeWords, headWords, actWords}
+use Rattle.keyparts.specs.View.{nodeOf, eventOf, followOf, nodesOf, edgesOf, classesOf, reached, followLinks, edgeWords, headWords, actWords}
+use Rattle.keygraph.specs.View.{graphIn}
 use Rattle.keypairs.specs.Views.{sharedOf, contextOf}
 use Rattle.keymachine.specs.Views.{resultBy}
 use Rattle.keymachine.proofs.Rounds.{by-result, by-state, falls-result, falls-state, stuck-result, stuck-state}

@@ -2,8 +2,7 @@
 use mathlib.Core.Path.{_≡_, refl, sym, ap, _∙_}
 use Rattle.rules.specs.Graph.{Node}
 use Rattle.rules.specs.Calls.{graphNavigator}
-use Rattle.keyparts.specs.View.{nodeOf, nodesOf, graphBy}
-use Rattle.keygraph.specs.View.{headWords, actWords}
+use Rattle.keyparts.specs.View.{nodeOf, nodesOf, graphBy, headWords, actWords}
 use Rattle.keypairs.specs.Views.{tables, modesOf, rulesOf, entryBy, stateOf}
 use Rattle.keypairs.proofs.Modes.{unmapped-is}
 use borrow.Author.Needs.{needs}

@@ -1,7 +1,6 @@
 -- By whether the cursor's node has an edge for the event, as `upsertAt`.
 use mathlib.Core.Path.{ap, sym, _∙_}
-use Rattle.keyparts.specs.View.{eventAt, nodesOf, packedOf, maybeOf}
-use Rattle.keygraph.specs.View.{headWords, actWords}
+use Rattle.keyparts.specs.View.{eventAt, nodesOf, packedOf, maybeOf, headWords, actWords}
 use Rattle.keygraph.specs.Making.{outcome, cursorIn}
 use Rattle.keygraph.specs.Making.{upserted}
 use Rattle.keygraph.proofs.Cursors.{restates-made, upsert-there, upsert-new}

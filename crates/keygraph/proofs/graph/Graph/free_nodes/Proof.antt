@@ -2,7 +2,7 @@
 use borrow.Author.Needs.{needs}
 use mathlib.Core.Path.{_≡_}
 use lib.ListN.{length}
-use Rattle.keygraph.specs.View.{headWords, actWords}
+use Rattle.keyparts.specs.View.{headWords, actWords}
 use Rattle.keygraph.proofs.Places.{heads-length, acts-length}
 use Rattle.keygraph.proofs.graph.Graph.free_nodes.Statement.{statement}
 use Rattle.keygraph.proofs.graph.Graph.free_nodes.Tie as tie

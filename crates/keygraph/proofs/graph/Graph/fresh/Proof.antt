@@ -6,8 +6,8 @@ use native.Mathlib.Omega.{arith}
 use native.Mathlib.Numerals.{add-one}
 use lib.ListN.{set, replicate}
 use Rattle.rules.specs.Graph.{freshGraph, roots}
-use Rattle.keyparts.specs.View.{nodeAt, zipWith, actionAt}
-use Rattle.keygraph.specs.View.{edgeWords, headWords, actWords, graphIn}
+use Rattle.keyparts.specs.View.{nodeAt, zipWith, actionAt, edgeWords, headWords, actWords}
+use Rattle.keygraph.specs.View.{graphIn}
 use borrow.Author.Needs.{needs}
 use Rattle.keygraph.proofs.graph.Graph.fresh.Statement.{statement}
 use Rattle.keygraph.proofs.graph.Graph.fresh.Tie as tie

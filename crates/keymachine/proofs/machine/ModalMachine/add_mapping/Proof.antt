@@ -1,6 +1,6 @@
 -- The graph answers as the rules' adding does, and all else of the machine stays.
-use Rattle.keyparts.specs.View.{wholePath, wholeStep}
-use Rattle.keygraph.specs.View.{graphOf, answerOf}
+use Rattle.keyparts.specs.View.{wholePath, wholeStep, answerOf}
+use Rattle.keygraph.specs.View.{graphOf}
 use Rattle.keymachine.specs.Views.{machineOf}
 use Rattle.keymachine.proofs.Calls.{mapped}
 use borrow.Author.Needs.{needs}
