@@ -19,9 +19,10 @@ use Rattle.rules.specs.MapFile.{Reader, thenRead, lifted, such, upTo, listOf, r
 use Rattle.keyparts.specs.View.{resultBy}
 use Rattle.keyparts.specs.declared.answer.Answer.{Answer}
 use Rattle.keyparts.specs.declared.answer.Answer.the-variants.{Accepted, Refused}
-use Rattle.mapfile.specs.declared.cursor.Cursor.{Cursor}
+use Rattle.mapparts.specs.declared.cursor.Cursor.{Cursor}
 use Rattle.keypairs.specs.Views.{outcome}
-use Rattle.mapfile.specs.View.{cursorOf, with, Reads, Comes, machineBy}
+use Rattle.mapparts.specs.View.{cursorOf, with, Reads}
+use Rattle.mapfile.specs.View.{Comes, machineBy}
 
 -- ---- coming to an answer
 

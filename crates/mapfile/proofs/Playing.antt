@@ -26,7 +26,7 @@ use Rattle.mapfile.specs.declared.play.Ran.the-variants.{Wrote, Refused}
 use Rattle.mapfile.specs.View.{laid, machineBy, ranOf, Ends}
 use Rattle.mapfile.proofs.Writing.{laid-laid, length-laid}
 use Rattle.mapfile.proofs.PairBytes.{pairs-append}
-use Rattle.mapfile.proofs.KeyBytes.{key-first, keys-none, key-bad}
+use Rattle.mapparts.proofs.KeyBytes.{key-first, keys-none, key-bad}
 
 -- ---- what a run that ended answers
 

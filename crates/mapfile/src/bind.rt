@@ -1,13 +1,13 @@
 // Bindings, each added in place after its last number.
-use crate::cursor::Cursor;
-use crate::part;
-use crate::step;
 use keygraph::answer::Answer;
 use keygraph::graph::Counts;
 use keygraph::mapping;
 use keygraph::path::EdgePath;
 use keygraph::prefix;
 use keygraph::step::Step;
+use mapparts::cursor::Cursor;
+use mapparts::part;
+use mapparts::step;
 ghost use mathlib.Core.Path.{_≡_};
 ghost use Prim.Native.Nat.{ℕ};
 ghost use mathlib.Core.List.{List};
@@ -17,7 +17,8 @@ ghost use Rattle.rules.specs.Calls.{graphKind, map-call, prefix-call};
 ghost use Rattle.rules.specs.MapFile.{lifted, readBinding, readBindings};
 ghost use Rattle.keyparts.specs.View.{wholePath, wholeStep, chosenOf};
 ghost use Rattle.keygraph.specs.View.{graphIn};
-ghost use Rattle.mapfile.specs.View.{cursorOf, Comes, machineBy, boundOf};
+ghost use Rattle.mapparts.specs.View.{cursorOf};
+ghost use Rattle.mapfile.specs.View.{Comes, machineBy, boundOf};
 
 // What a binding leaves beside the graph's words, and the place after it.
 pub struct Bound {

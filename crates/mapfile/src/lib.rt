@@ -1,14 +1,12 @@
-// Map files and the run on them, for the C firmware.
+// Map files and the run on them, for the C firmware: bindings are added as they are read, keys are played on the map, and the
+// pairs are written. What a file's parts are read with stands in the crate below, whose numbers and places are handed on
+// from here.
 mod bind;
-pub mod cursor;
-mod keys;
-mod list;
 pub mod map;
-pub mod number;
 mod pairs;
-mod part;
 mod play;
 pub mod run;
-mod step;
-mod tables;
 pub mod write;
+
+pub use mapparts::cursor;
+pub use mapparts::number;

@@ -1,11 +1,11 @@
 // The map file.
 use crate::bind;
-use crate::cursor::Cursor;
-use crate::tables;
 use keygraph::answer::Answer;
 use keygraph::graph::Counts;
 use keygraph::graph::Graph;
 use keymachine::state::Sizes;
+use mapparts::cursor::Cursor;
+use mapparts::tables;
 ghost use mathlib.Core.Path.{_≡_};
 ghost use lib.ListN.{drop};
 ghost use Rattle.rules.specs.Calls.{Machine, graphKind};

@@ -1,9 +1,6 @@
 // Keys played on a map that was read. The live arrays are locals that are changed in place, and the map's are only lent, so
 // a key copies no map.
-use crate::keys;
 use crate::map;
-use crate::number;
-use crate::number::Read;
 use crate::pairs;
 use keygraph::answer::Answer;
 use keygraph::graph::Counts;
@@ -11,6 +8,9 @@ use keymachine::context::Context;
 use keymachine::key;
 use keymachine::state::Sizes;
 use keymachine::state::State;
+use mapparts::keys;
+use mapparts::number;
+use mapparts::number::Read;
 ghost use mathlib.Core.Path.{_≡_};
 ghost use mathlib.Core.List.{List, []};
 ghost use Prim.Native.Nat.{ℕ, _≤_, min};

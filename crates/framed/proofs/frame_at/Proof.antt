@@ -1,8 +1,8 @@
 -- Each of the two numbers moves the place on.
 use native.Mathlib.Omega.{arith}
 use mathlib.Core.Path.{sym, ap, _∙_}
-use Rattle.mapfile.specs.View.{readOf}
-use Rattle.mapfile.proofs.KeyBytes.{onward}
+use Rattle.mapparts.specs.View.{readOf}
+use Rattle.mapparts.proofs.KeyBytes.{onward}
 use borrow.Author.Needs.{needs}
 use Rattle.framed.proofs.frame_at.Statement.{statement}
 use Rattle.framed.proofs.frame_at.Tie as tie

@@ -3,8 +3,8 @@ use native.Mathlib.Omega.{arith}
 use Prim.Native.Nat.{_≤_, _-_}
 use mathlib.Core.Path.{_≡_, sym, ap, _∙_}
 use lib.ListN.{length}
-use Rattle.mapfile.specs.View.{readOf}
-use Rattle.mapfile.proofs.KeyBytes.{onward}
+use Rattle.mapparts.specs.View.{readOf}
+use Rattle.mapparts.proofs.KeyBytes.{onward}
 use borrow.Author.Needs.{needs}
 use Rattle.playback.proofs.print_pairs.Statement.{statement}
 use Rattle.playback.proofs.print_pairs.Tie as tie

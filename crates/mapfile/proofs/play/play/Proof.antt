@@ -3,7 +3,8 @@ use mathlib.Core.Path.{sym, ap, _∙_, subst}
 use mathlib.Core.List.{[]}
 use mathlib.Core.Bool.{true}
 use Rattle.rules.specs.Run.{readKeys, playKeys}
-use Rattle.mapfile.specs.View.{mapOf, Checked, Ends}
+use Rattle.mapparts.specs.View.{Checked}
+use Rattle.mapfile.specs.View.{mapOf, Ends}
 use Rattle.mapfile.proofs.Runs.{map-ends, keys-end, plays}
 use borrow.Author.Needs.{needs}
 use Rattle.mapfile.proofs.play.play.Statement.{statement}

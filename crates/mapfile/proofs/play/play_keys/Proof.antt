@@ -10,8 +10,8 @@ use Rattle.rules.specs.Basics.{accept}
 use Rattle.rules.specs.Run.{readKeys}
 use Rattle.keygraph.specs.View.{graphIn}
 use Rattle.keypairs.specs.Views.{tablesOf, stateOf}
-use Rattle.mapfile.specs.View.{readOf}
-use Rattle.mapfile.proofs.KeyBytes.{onward}
+use Rattle.mapparts.specs.View.{readOf}
+use Rattle.mapparts.proofs.KeyBytes.{onward}
 use Rattle.mapfile.proofs.Playing.{Playing, starts, played-all, played-bad, key-refused, key-full, key-played}
 use Rattle.mapfile.proofs.play.play_keys.Statement.{statement}
 use Rattle.mapfile.proofs.play.play_keys.Tie as tie
