@@ -11,10 +11,10 @@ use borrow.Author.Tests.{ne-eqb}
 use mathlib.Core.Option.{Option, none, some}
 use Rattle.rules.specs.Basics.{if_then_else_, Result, accept, refuse, _>>=_}
 use Rattle.rules.specs.Values.{Event, Fallthrough, Min, Max, Part, Step}
-use Rattle.rules.specs.Graph.{Graph, Cursor, cursor, NodeAction, Empty, addNode, addEdge, upsertNode, upsertAt, getEdge, settle, edgeBetween, edgeTo, nodeFor, addSimpleStep, addSimples, addOptionals, addMin, addMax, addRepeat, addIntermediate, actionOf, mapPath, prefixLast, prefixPath}
-use Rattle.keygraph.specs.Making.{Leads, Makes, resultOf, outcome, cursorIn, settledAt, upserted, paid, addParts, minTo, minOn}
+use Rattle.rules.specs.Graph.{Graph, Node, Cursor, cursor, NodeAction, Empty, addNode, addEdge, upsertNode, upsertAt, getEdge, settle, edgeBetween, edgeTo, nodeFor, addSimpleStep, addSimples, addOptionals, addMin, addMax, addRepeat, addIntermediate, actionOf, mapPath, prefixLast, prefixPath}
+use Rattle.keygraph.specs.Making.{Leads, Makes, resultOf, outcome, cursorIn, settledAt, upsertedAt, upserted, paid, addParts, minTo, minOn}
 use Rattle.keygraph.specs.declared.cursor.Cursor as C
-use Rattle.keyparts.specs.View.{eventAt}
+use Rattle.keyparts.specs.View.{eventAt, graphBy, edgesOf, nodesOf, edgeWords, headWords, actWords}
 use Rattle.keygraph.specs.View.{graphIn}
 use Rattle.keygraph.specs.declared.graph.Counts.{Counts}
 use Rattle.keyparts.proofs.Words.{event-fall, take-min}
@@ -101,15 +101,19 @@ module _ (n : ℕ) (x y : Graph) (p : ℕ) (o : Bool) where
   unfolding settledAt
   settle-made k mode node action h = rw (← h) (made k n)
 
--- ---- upsert_node: by the edge that is there or not
-module _ (c : Cursor) (mode : ℕ) (ev : Event) (action : NodeAction) where
-  pub upsert-there : (n : ℕ) → some n ≡ getEdge (c .graph) (c .prev) ev → settledAt mode n action c ≡ upserted mode ev action c
-  unfolding settledAt upserted upsertNode upsertAt
-  upsert-there n h = rw (← h)
+-- ---- the upsert: by the end of the edge that was found or not
+module _ (c : Cursor) (mode : ℕ) (action : NodeAction) (end : Option ℕ) where
+  pub upsert-there : (n : ℕ) → end ≡ some n → settledAt mode n action c ≡ upsertedAt mode end action c
+  unfolding settledAt upsertedAt upsertAt
+  upsert-there n h = rw h
 
-  pub upsert-new : none ≡ getEdge (c .graph) (c .prev) ev → nodeFor mode action c ≡ upserted mode ev action c
-  unfolding nodeFor upserted upsertNode upsertAt
-  upsert-new h = rw (← h)
+  pub upsert-new : end ≡ none → nodeFor mode action c ≡ upsertedAt mode end action c
+  unfolding nodeFor upsertedAt upsertAt
+  upsert-new h = rw h
+
+  pub upsert-found : (ev : Event) → end ≡ getEdge (c .graph) (c .prev) ev → upsertedAt mode end action c ≡ upserted mode ev action c
+  unfolding upsertedAt upserted upsertNode
+  upsert-found ev h = rw h
 
 -- ---- add_simple_step: its parts are the rules'
 pub simple-parts : (mode : ℕ) (ev : Event) (action : NodeAction) (c : Cursor)
@@ -304,6 +308,13 @@ module _ (ws : List ℕ) (s : C.Cursor) where
   pub restates-in : {f : Cursor → Result Cursor} (f′ : Cursor → Result Cursor) {y : Result Cursor} → f (cursorIn ws s) ≡ f′ (cursorIn ws s) → Leads (outcome ws s) f y → Leads (outcome ws s) f′ y
   unfolding outcome
   restates-in f′ e h = restates (s .refusal) (cursorIn ws s) f′ e h
+
+  -- the upsert by the end that a search for the cursor's edge gave
+  pub upserts-in : (mode : ℕ) (ev : Event) (action : NodeAction) (end : Option ℕ) → ((ns : List Node) → end ≡ getEdge (graphBy ns (edgesOf (edgeWords ws) (s .counts .edges))) (s .prev) ev)
+      → {y : Result Cursor} {k : ℕ} → Makes (outcome ws s) (upsertedAt mode end action) y k → Makes (outcome ws s) (upserted mode ev action) y k
+  unfolding outcome
+  upserts-in mode ev action end h m =
+      restates-made (s .refusal) (cursorIn ws s) (upserted mode ev action) (upsert-found (cursorIn ws s) mode action end ev (h (nodesOf (headWords ws) (actWords ws) (s .counts .nodes)))) m
 
 -- ---- the code of Fallthrough
 module _ {x y : Result Cursor} where

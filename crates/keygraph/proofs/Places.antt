@@ -1,17 +1,23 @@
 -- The three parts of a graph's words: a word that goes into one leaves the others as they are, so the laws of edges and nodes hold
 -- of the whole.
 use Prim.Native.Nat.{ℕ, _+_, _-_, _*_, _/_, _%_, _<_, _≤_, min}
-use mathlib.Core.Path.{_≡_, sym, ap, _∙_}
-use mathlib.Core.List.{List}
+use mathlib.Core.Path.{_≡_, sym, ap, _∙_, subst}
+use mathlib.Core.Bool.{Bool, true, false}
+use mathlib.Core.List.{List, [], _∷_, _++_}
 use native.Mathlib.Omega.{arith}
+use native.Mathlib.Numerals.{add-one}
+use lib.Dec.{ltb}
 use lib.ListN.{length, take, drop, set, getD, length-take, length-drop}
-use lib.Seq.{take-set-lt, take-set-le, drop-set-lt, drop-set-add}
-use Rattle.rules.specs.Basics.{accept, refuse}
+use lib.Seq.{take-set-lt, take-set-le, take-suc-set, drop-set-lt, drop-set-add}
+use borrow.Author.Tests.{lt-ltb, le-ltb, eqb-true}
+use Rattle.rules.specs.Basics.{if_then_else_, accept, refuse}
 use Rattle.rules.specs.Graph.{Graph, addEdge, addNode, settle}
 use Rattle.keygraph.specs.declared.graph.Counts.{Counts}
-use Rattle.keyparts.specs.View.{eventAt, nodeAt, nodesOf, edgesOf, find, keyIs, edgeWords, headWords, actWords}
+use Rattle.keyparts.specs.View.{eventAt, nodeAt, nodesOf, edgesOf, find, keyIs, edgeWords, headWords, actWords, linkAt, Indexed}
 use Rattle.keygraph.specs.View.{graphFrom, graphIn}
-use Rattle.keyparts.proofs.Finds.{find-most, edge-replaced, edge-appended, edge-full}
+use Rattle.keygraph.specs.Making.{linkMore}
+use Rattle.keyparts.proofs.Links.{indexed-put, indexed-more}
+use Rattle.keyparts.proofs.Finds.{find-most, find-has, edge-replaced, edge-appended, edge-full}
 use Rattle.keyparts.proofs.Nodes.{node-added, node-full, settle-set, settle-out, settle-other}
 
 module _ (ws : List ℕ) (hl : length ws ≡ 4128) where
@@ -77,6 +83,9 @@ pub node-stored : (ws : List ℕ) (i h w : ℕ) (k : Counts) → i < 1040
 node-stored ws i h w k l =
     rw (act-heads (set ws (2048 + i) h) i w, act-in (set ws (2048 + i) h) i w l, act-edges (set ws (2048 + i) h) i w, head-in ws i h l, head-acts ws i h l, head-edges ws i h)
 
+pub node-edges : (ws : List ℕ) (i h w : ℕ) → edgeWords (set (set ws (2048 + i) h) (3088 + i) w) ≡ edgeWords ws
+node-edges ws i h w = act-edges (set ws (2048 + i) h) i w ∙ head-edges ws i h
+
 -- ---- an edge: n and i are what the code has for the total and the place
 module _ (ws : List ℕ) (k : Counts) (from code to n i w : ℕ) (hf : from < 65536) (ht : to < 65536) (hl : length ws ≡ 4128)
     (hn : n ≡ min (k .edges) 2048) (hi : i ≡ find (keyIs (from + code * 65536)) (take (k .edges) (edgeWords ws))) (hw : w ≡ to + 65536 * (from + code * 65536)) where
@@ -102,6 +111,46 @@ module _ (ws : List ℕ) (k : Counts) (from code to n i w : ℕ) (hf : from < 65
       let h : n ≤ i = omega arith in
       let r : 2048 ≤ n = omega (arith, found) in
       edge-full (nodesOf (headWords ws) (actWords ws) (k .nodes)) (k .edges) (edgeWords ws) from code to n i w hf ht (edges-length ws hl) hn hi hw h r
+
+  -- the links of an index of the edges are those of the new ones, once an edge more is linked
+  module _ (ls : List ℕ) (x : Indexed (take (k .edges) (edgeWords ws)) ls) where
+    key-is : w / 65536 ≡ from + code * 65536
+    key-is = omega arith
+
+    total : length (take (k .edges) (edgeWords ws)) ≡ n
+    total = omega (arith, length-take (k .edges) (edgeWords ws), edges-length ws hl)
+
+    pub index-put : i < n → Indexed (take (k .edges) (edgeWords (set ws i w))) (linkMore ls (k .edges) i (from + code * 65536))
+    unfolding linkMore keyIs
+    index-put h =
+        let b : i < 2048 = omega arith in
+        let l : i < k .edges = omega arith in
+        let t : i < length (take (k .edges) (edgeWords ws)) = omega (arith, total) in
+        let e : getD (take (k .edges) (edgeWords ws)) i 0 / 65536 ≡ from + code * 65536
+        = eqb-true _ _ (rw (← hi) at (find-has (keyIs (from + code * 65536)) 0 (take (k .edges) (edgeWords ws)) (subst (λ (j : ℕ). j < length (take (k .edges) (edgeWords ws))) hi t))) in
+        rw (lt-ltb i (k .edges) l, edge-in ws i w b, take-set-lt (k .edges) (edgeWords ws) i w l) (indexed-put (take (k .edges) (edgeWords ws)) i w ls t (key-is ∙ sym e) x)
+
+    pub index-more : n ≤ i → i < 2048 → Indexed (take (n + 1) (edgeWords (set ws i w))) (linkMore ls (k .edges) i (from + code * 65536))
+    unfolding linkMore
+    index-more h l =
+        let f : i ≡ n = omega (arith, found) in
+        let m : n ≡ k .edges = omega arith in
+        let g : k .edges ≤ i = omega arith in
+        let j : i ≡ length (take (k .edges) (edgeWords ws)) = omega (arith, total) in
+        let r : length (take (k .edges) (edgeWords ws)) < 2048 = omega arith in
+        let v : k .edges < length (edgeWords ws) = omega (arith, edges-length ws hl) in
+        let q : take (n + 1) (edgeWords (set ws i w)) ≡ take (k .edges) (edgeWords ws) ++ (w ∷ [])
+        = ap (take (n + 1)) (edge-in ws i w l) ∙ rw (f, m, add-one, take-suc-set (edgeWords ws) (k .edges) w v) in
+        rw (le-ltb i (k .edges) g, q, j, ← key-is)
+        (indexed-more (take (k .edges) (edgeWords ws)) w ls r x (rw key-is (sym hi ∙ j)))
+
+    pub index-full : 2048 ≤ i → Indexed (take (k .edges) (edgeWords ws)) (linkMore ls (k .edges) i (from + code * 65536))
+    unfolding linkMore linkAt
+    index-full l = rw (le-ltb i 2048 l) (pick (ltb i (k .edges)))
+      where
+        pick : (b : Bool) → Indexed (take (k .edges) (edgeWords ws)) (if b then ls else ls)
+        pick true = x
+        pick false = x
 
 -- ---- a node more: x is the graph after its words were stored
 module _ (ws : List ℕ) (k : Counts) (n h w : ℕ) (hl : length ws ≡ 4128) (hn : n ≡ min (k .nodes) 1040) where

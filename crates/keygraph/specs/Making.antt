@@ -3,10 +3,14 @@
 use Prim.Native.Nat.{ℕ, zero, suc}
 use mathlib.Core.Path.{_≡_}
 use mathlib.Core.List.{List, [], _∷_}
+use mathlib.Core.Option.{Option}
+use lib.Dec.{ltb}
+use lib.ListN.{take}
 use Rattle.rules.specs.Basics.{if_then_else_, Result, accept, refuse, _>>=_}
 use Rattle.rules.specs.Values as v
 use Rattle.rules.specs.Graph as g
 use Rattle.keygraph.specs.declared.cursor.Cursor.{Cursor}
+use Rattle.keyparts.specs.View.{linkAt, edgeWords}
 use Rattle.keygraph.specs.View.{graphIn}
 
 -- y is what x comes to by f, and a refusal of x is kept
@@ -26,8 +30,16 @@ resultOf (suc n) a = refuse (suc n)
 abbrev pub cursorIn : List ℕ → Cursor → g.Cursor
 cursorIn ws c = g.cursor (graphIn ws (c .counts)) (c .prev) (c .owed)
 
+-- the words of its edges
+abbrev pub edgesIn : List ℕ → Cursor → List ℕ
+edgesIn ws c = take (c .counts .edges) (edgeWords ws)
+
 unfoldable pub outcome : List ℕ → Cursor → Result g.Cursor
 outcome ws c = resultOf (c .refusal) (cursorIn ws c)
+
+-- the links after an edge with the key went to place i, where there were n edges: behind the last it goes before its chain
+unfoldable pub linkMore : List ℕ → ℕ → ℕ → ℕ → List ℕ
+linkMore ls n i key = if ltb i n then ls else linkAt ls i key
 
 -- ---- parts of the rules' functions on a cursor
 
@@ -38,6 +50,9 @@ onGraph f c = do
 
 unfoldable pub settledAt : ℕ → ℕ → g.NodeAction → g.Cursor → Result (g.Cursor × ℕ)
 settledAt mode n action c = onGraph (g.settle mode n action) c
+
+unfoldable pub upsertedAt : ℕ → Option ℕ → g.NodeAction → g.Cursor → Result (g.Cursor × ℕ)
+upsertedAt mode end action c = onGraph (λ x. g.upsertAt mode action x end) c
 
 unfoldable pub upserted : ℕ → v.Event → g.NodeAction → g.Cursor → Result (g.Cursor × ℕ)
 upserted mode ev action c = onGraph (g.upsertNode mode (c .prev) ev action) c

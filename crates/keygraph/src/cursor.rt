@@ -8,14 +8,14 @@ use keyparts::number;
 use keyparts::step::Maybe;
 ghost use mathlib.Core.Path.{_≡_};
 ghost use mathlib.Core.List.{List};
-ghost use Prim.Native.Nat.{ℕ, _<_};
+ghost use Prim.Native.Nat.{ℕ, _+_, _*_, _<_};
 ghost use lib.ListN.{length};
 ghost use Rattle.rules.specs.Basics.{accept};
 ghost use Rattle.rules.specs.Graph as g;
-ghost use Rattle.keyparts.specs.View.{eventAt, packedOf};
+ghost use Rattle.keyparts.specs.View.{eventAt, packedOf, maybeOf, find, keyIs, Indexed, edgeWords};
 ghost use Rattle.keygraph.specs.declared.graph.Counts as k;
 ghost use Rattle.keygraph.specs.View.{graphIn, withNode};
-ghost use Rattle.keygraph.specs.Making.{Leads, Makes, outcome, settledAt, upserted, paid};
+ghost use Rattle.keygraph.specs.Making.{Leads, Makes, outcome, edgesIn, linkMore, settledAt, upsertedAt, upserted, paid};
 
 // `prev` is the node come to, `owed` whether a Fallthrough edge is owed from there, and `refusal` the number of the
 // refusal met, or 0.
@@ -93,6 +93,7 @@ impl Cursor {
     // The cursor moves to a node, from which a Fallthrough edge is owed or not.
     pub(crate) fn go_owing(self, node: u16, owed: bool) -> Cursor
         ensures { λ r. ⌜ ((ws : List ℕ) → Leads (outcome ws self) (λ c. accept (g.cursor (c .graph) node owed)) (outcome ws r)) ⌝ }
+        ensures { λ r. ⌜ r .counts ≡ self .counts ⌝ }
     {
         let k = self.counts;
         Cursor {
@@ -103,26 +104,46 @@ impl Cursor {
         }
     }
 
-    // An edge between any two nodes: the one with the same start and event is replaced, and else it goes to the end,
-    // which is the place that a search without a hit gives.
+    // An edge at the place that a search for its start and event gave: it goes in for the one that stands there, and else
+    // behind the last, which is the place that a search without a hit gives. The links of an index of the edges are those
+    // of the new edges as they are, or, where there is an edge more, once that one is linked.
+    pub(crate) fn put_edge(
+        self,
+        words: &mut [u64; 4128],
+        i: usize,
+        from: u16,
+        to: u16,
+        code: u32,
+    ) -> Cursor
+        requires { ⌜ length (now words) ≡ 4128 ⌝ }
+        requires { ⌜ (self .refusal ≡ 0) × (i ≡ find (keyIs (from + code * 65536)) (edgesIn (now words) self)) ⌝ }
+        ensures { λ r. ⌜ length (now (words .exit)) ≡ 4128 ⌝ }
+        ensures { λ r. ⌜ Leads (outcome (now (words .entry)) self) (g.edgeBetween from to (eventAt code)) (outcome (now (words .exit)) r) ⌝ }
+        ensures { λ r. ⌜ ((ls : List ℕ) → Indexed (edgesIn (now (words .entry)) self) ls → Indexed (edgesIn (now (words .exit)) r) (linkMore ls (self .counts .edges) i (from + code * 65536))) ⌝ }
+    {
+        let k = self.counts.edges;
+        let n = number::least_of(k, 2048);
+        let key = number::key_of(from, code);
+        if i < 2048 {
+            words[i] = (to as u64) + 65536 * key;
+            if i < (n as usize) {
+                return self;
+            }
+            return self.with_edges(n + 1);
+        }
+        self.refused(3)
+    }
+
+    // An edge between any two nodes.
     pub(crate) fn add_edge(self, words: &mut [u64; 4128], from: u16, to: u16, code: u32) -> Cursor
         requires { ⌜ length (now words) ≡ 4128 ⌝ }
         ensures { λ r. ⌜ length (now (words .exit)) ≡ 4128 ⌝ }
         ensures { λ r. ⌜ Leads (outcome (now (words .entry)) self) (g.edgeBetween from to (eventAt code)) (outcome (now (words .exit)) r) ⌝ }
     {
         if self.refusal == 0 {
-            let k = self.counts.edges;
-            let n = number::least_of(k, 2048);
             let key = number::key_of(from, code);
-            let i = parts::scan(words, k, key);
-            if i < 2048 {
-                words[i] = (to as u64) + 65536 * key;
-                if i < (n as usize) {
-                    return self;
-                }
-                return self.with_edges(n + 1);
-            }
-            return self.refused(3);
+            let i = parts::scan(words, self.counts.edges, key);
+            return self.put_edge(words, i, from, to, code);
         }
         self
     }
@@ -154,6 +175,7 @@ impl Cursor {
         requires { ⌜ length (now words) ≡ 4128 ⌝ }
         ensures { λ r. ⌜ length (now (words .exit)) ≡ 4128 ⌝ }
         ensures { λ r. ⌜ Makes (outcome (now (words .entry)) self) (g.nodeFor (packedOf p .mode) (packedOf p .action)) (outcome (now (words .exit)) (r .cursor)) (r .node) ⌝ }
+        ensures { λ r. ⌜ edgesIn (now (words .exit)) (r .cursor) ≡ edgesIn (now (words .entry)) self ⌝ }
     {
         if self.refusal == 0 {
             let k = self.counts.nodes;
@@ -187,6 +209,7 @@ impl Cursor {
         requires { ⌜ length (now words) ≡ 4128 ⌝ }
         ensures { λ r. ⌜ length (now (words .exit)) ≡ 4128 ⌝ }
         ensures { λ r. ⌜ Makes (outcome (now (words .entry)) self) (settledAt (packedOf p .mode) node (packedOf p .action)) (outcome (now (words .exit)) (r .cursor)) (r .node) ⌝ }
+        ensures { λ r. ⌜ edgesIn (now (words .exit)) (r .cursor) ≡ edgesIn (now (words .entry)) self ⌝ }
     {
         let kept = Made {
             cursor: self,
@@ -212,6 +235,19 @@ impl Cursor {
         kept
     }
 
+    // The node at the end of an edge that was found, or else a node more.
+    pub(crate) fn upsert_at(self, words: &mut [u64; 4128], e: Maybe, p: Packed) -> Made
+        requires { ⌜ length (now words) ≡ 4128 ⌝ }
+        ensures { λ r. ⌜ length (now (words .exit)) ≡ 4128 ⌝ }
+        ensures { λ r. ⌜ Makes (outcome (now (words .entry)) self) (upsertedAt (packedOf p .mode) (maybeOf e) (packedOf p .action)) (outcome (now (words .exit)) (r .cursor)) (r .node) ⌝ }
+        ensures { λ r. ⌜ edgesIn (now (words .exit)) (r .cursor) ≡ edgesIn (now (words .entry)) self ⌝ }
+    {
+        match e {
+            Maybe::Just(n) => return self.settle(words, n, p),
+            Maybe::Nothing => return self.add_node(words, p),
+        }
+    }
+
     // The end of the cursor's edge for the event, or else a node more.
     pub(crate) fn upsert_node(self, words: &mut [u64; 4128], code: u32, p: Packed) -> Made
         requires { ⌜ length (now words) ≡ 4128 ⌝ }
@@ -219,10 +255,7 @@ impl Cursor {
         ensures { λ r. ⌜ Makes (outcome (now (words .entry)) self) (upserted (packedOf p .mode) (eventAt code) (packedOf p .action)) (outcome (now (words .exit)) (r .cursor)) (r .node) ⌝ }
     {
         let e = parts::get_edge(words, self.counts.edges, self.prev, code);
-        match e {
-            Maybe::Just(n) => return self.settle(words, n, p),
-            Maybe::Nothing => return self.add_node(words, p),
-        }
+        self.upsert_at(words, e, p)
     }
 }
 
@@ -231,6 +264,7 @@ fn set_node(words: &mut [u64; 4128], node: u16, p: Packed)
     requires { ⌜ (length (now words) ≡ 4128) × (node < 1040) ⌝ }
     ensures { λ r. ⌜ length (now (words .exit)) ≡ 4128 ⌝ }
     ensures { λ r. ⌜ ((n : k.Counts) → graphIn (now (words .exit)) n ≡ withNode (now (words .entry)) node p n) ⌝ }
+    ensures { λ r. ⌜ edgeWords (now (words .exit)) ≡ edgeWords (now (words .entry)) ⌝ }
 {
     let i = node as usize;
     words[2048 + i] = p.head;

@@ -6,6 +6,7 @@
 // handed on from here.
 mod cursor;
 pub mod graph;
+mod indexed;
 pub mod mapping;
 mod parts;
 pub mod prefix;

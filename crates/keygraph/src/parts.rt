@@ -4,6 +4,7 @@ use keyparts::find;
 use keyparts::find::Found;
 use keyparts::follow;
 use keyparts::follow::FollowResult;
+use keyparts::index;
 use keyparts::index::Index;
 use keyparts::node;
 use keyparts::node::Node;
@@ -13,7 +14,7 @@ ghost use mathlib.Core.List.{List};
 ghost use lib.ListN.{length, take, getD};
 ghost use Rattle.rules.specs.Graph as g;
 ghost use Rattle.rules.specs.Calls.{FindFits};
-ghost use Rattle.keyparts.specs.View.{eventAt, edgesOf, nodesOf, nodeOf, classesOf, followOf, foundOf, graphBy, maybeOf, find, keyIs, edgeWords, headWords, actWords};
+ghost use Rattle.keyparts.specs.View.{eventAt, edgesOf, nodesOf, nodeOf, classesOf, followOf, foundOf, graphBy, maybeOf, find, keyIs, edgeWords, headWords, actWords, Indexed};
 
 // Where the edge with this key stands among the first `count`, or their number.
 pub(crate) fn scan(words: &[u64], count: u16, key: u64) -> usize
@@ -30,6 +31,44 @@ pub(crate) fn get_edge(words: &[u64], count: u16, node: u16, code: u32) -> Maybe
 {
     let edges = &words[0..2048];
     edge::get_edge(edges, count, node, code)
+}
+
+// The index of the first `count` edges.
+pub(crate) fn index_of(words: &[u64], count: u16) -> Index
+    requires { ⌜ length (now words) ≡ 4128 ⌝ }
+    ensures { λ r. ⌜ Indexed (take count (edgeWords (now (words .entry)))) (r .links) ⌝ }
+{
+    let edges = &words[0..2048];
+    Index::new(edges, count)
+}
+
+// What `scan` says, by the links of an index.
+pub(crate) fn linked_place<'a>(
+    words: &'a [u64],
+    count: u16,
+    links: &'a [u16; 2304],
+    key: u64,
+) -> usize
+    requires { ⌜ (length (now words) ≡ 4128) × Indexed (take count (edgeWords (now words))) (now links) ⌝ }
+    ensures { λ r. ⌜ r ≡ find (keyIs key) (take count (edgeWords (now (words .entry)))) ⌝ }
+{
+    let edges = &words[0..2048];
+    index::linked_place(edges, count, links, key)
+}
+
+// What `get_edge` says, by the links of an index.
+pub(crate) fn linked_edge<'a>(
+    words: &'a [u64],
+    count: u16,
+    links: &'a [u16; 2304],
+    node: u16,
+    code: u32,
+) -> Maybe
+    requires { ⌜ (length (now words) ≡ 4128) × Indexed (take count (edgeWords (now words))) (now links) ⌝ }
+    ensures { λ r. ⌜ ((ns : List g.Node) → maybeOf r ≡ g.getEdge (graphBy ns (edgesOf (edgeWords (now (words .entry))) count)) node (eventAt code)) ⌝ }
+{
+    let edges = &words[0..2048];
+    index::linked_edge(edges, count, links, node, code)
 }
 
 pub(crate) fn has_edges(words: &[u64], count: u16, node: u16) -> bool

@@ -43,17 +43,23 @@ impl Cursor {
         self.add_simple_step(words, code, p)
     }
 
-    // n further times the event.
+    // n further times the event. Both loops go by an index of the edges: see indexed.rt.
     pub(crate) fn add_simples(self, words: &mut [u64; 4128], n: u16, mode: u16, code: u32) -> Cursor
         requires { ⌜ mode < 16 ⌝ }
         requires { ⌜ length (now words) ≡ 4128 ⌝ }
         ensures { λ r. ⌜ length (now (words .exit)) ≡ 4128 ⌝ }
         ensures { λ r. ⌜ Leads (outcome (now (words .entry)) self) (g.addSimples n mode (eventAt code)) (outcome (now (words .exit)) r) ⌝ }
     {
+        if n == 0 {
+            return self;
+        }
+        let p = Packed::empty(mode);
+        let index = parts::index_of(words, self.counts.edges);
+        let mut links = index.links;
         let mut c = self;
         let mut left = n;
         while 0 < left {
-            c = c.add_simple(words, mode, code);
+            c = c.step_by(words, &mut links, code, p);
             left = left - 1;
         }
         c
@@ -73,11 +79,17 @@ impl Cursor {
         ensures { λ r. ⌜ length (now (words .exit)) ≡ 4128 ⌝ }
         ensures { λ r. ⌜ Leads (outcome (now (words .entry)) self) (g.addOptionals n mode (eventAt code) end) (outcome (now (words .exit)) r) ⌝ }
     {
+        if n == 0 {
+            return self;
+        }
+        let p = Packed::empty(mode);
+        let index = parts::index_of(words, self.counts.edges);
+        let mut links = index.links;
         let mut c = self;
         let mut i = n;
         while 0 < i {
-            let d = c.add_simple(words, mode, code);
-            c = d.edge_to(words, end, event::FALLTHROUGH);
+            let d = c.step_by(words, &mut links, code, p);
+            c = d.edge_by(words, &mut links, end, event::FALLTHROUGH);
             i = i - 1;
         }
         c

@@ -56,6 +56,16 @@ find-most p (x ∷ xs) = pick (p x) (find-most p xs)
     pick true h = zero-le
     pick false h = omega arith
 
+pub find-has : {A : Type 0} (p : A → Bool) (d : A) (xs : List A) → find p xs < length xs → p (getD xs (find p xs) d) ≡ true
+unfolding find
+find-has p d [] h = absurd (omega arith)
+find-has p d (x ∷ xs) h = go (p x) refl (find-has p d xs) h
+  where
+    go : (b : Bool) → p x ≡ b → (find p xs < length xs → p (getD xs (find p xs) d) ≡ true) → (if b then 0 else suc (find p xs)) < suc (length xs)
+        → p (getD (x ∷ xs) (if b then 0 else suc (find p xs)) d) ≡ true
+    go true e ih h = e
+    go false e ih h = ih (omega arith)
+
 -- ---- what the search's answer says of the edges
 module _ (n : ℕ) (ev : Event) (p : ℕ → Bool) (same : (w : ℕ) → isEdge n ev (edgeOf w) ≡ p w) where
   pub end-found : (xs : List ℕ) → find p xs < length xs → endIn (map edgeOf xs) n ev ≡ some (edgeOf (getD xs (find p xs) 0) .to)

@@ -1,10 +1,11 @@
 -- What the graph's words and the declared types mean, in the values of the rules. Every word decodes to something.
-use Prim.Native.Nat.{ℕ, zero, suc, _+_, _-_, _*_, _/_, _%_}
+use Prim.Native.Nat.{ℕ, zero, suc, _+_, _-_, _*_, _/_, _%_, _<_, _≤_}
+use mathlib.Core.Path.{_≡_}
 use mathlib.Core.Bool.{Bool, true, false}
 use mathlib.Core.Option.{Option, none, some}
 use mathlib.Core.List.{List, [], _∷_, _++_, map}
 use lib.Dec.{ltb, eqb}
-use lib.ListN.{length, take, drop, replicate, getD}
+use lib.ListN.{length, take, drop, replicate, set, getD}
 use Rattle.rules.specs.Basics.{if_then_else_, Result, accept, refuse}
 use Rattle.rules.specs.Values as v
 use Rattle.rules.specs.Tables.{ClassEntry, holdsKey, memberships}
@@ -224,17 +225,39 @@ reached ws n = take 2048 (take n ws)
 unfoldable pub chainOf : ℕ → ℕ
 chainOf key = 2048 + (key / 65536 % 256 + key % 256) % 256
 
--- the end of n's edge for the event, in at most so many steps from place i on; a place with no edge ends the chain
-unfoldable pub endOn : ℕ → List ℕ → List ℕ → ℕ → v.Event → ℕ → Option ℕ
-endOn zero ws ls n ev i = none
-endOn (suc k) ws ls n ev i =
+-- the place of the edge with the key, in at most so many steps from place i on; a place with no edge ends the chain
+unfoldable pub placeOn : ℕ → List ℕ → List ℕ → ℕ → ℕ → ℕ
+placeOn zero ws ls key i = length ws
+placeOn (suc k) ws ls key i =
     if ltb i (length ws)
-    then (if g.isEdge n ev (edgeOf (getD ws i 0)) then some (edgeOf (getD ws i 0) .to) else endOn k ws ls n ev (getD ls i 0))
+    then (if keyIs key (getD ws i 0) then i else placeOn k ws ls key (getD ls i 0))
+    else length ws
+
+-- the place of the edge with the key, as the links lead to it, or the number of edges
+unfoldable pub linkedPlace : List ℕ → List ℕ → ℕ → ℕ
+linkedPlace ws ls key = placeOn 2048 ws ls key (getD ls (chainOf key) 0)
+
+-- the end of n's edge for the event, if it stands at place i; n and the event may be such as no word has
+unfoldable pub endAt : List ℕ → ℕ → v.Event → ℕ → Option ℕ
+endAt ws n ev i =
+    if ltb i (length ws)
+    then (if g.isEdge n ev (edgeOf (getD ws i 0)) then some (edgeOf (getD ws i 0) .to) else none)
     else none
 
 -- the end of n's edge for the event, as the links lead to it
 unfoldable pub linkedEnd : List ℕ → List ℕ → ℕ → v.Event → Option ℕ
-linkedEnd ws ls n ev = endOn 2048 ws ls n ev (getD ls (chainOf (n + codeOf ev * 65536)) 0)
+linkedEnd ws ls n ev = endAt ws n ev (linkedPlace ws ls (n + codeOf ev * 65536))
+
+-- the links after the edge at place i went before the chain of its key; from 2,048 on there is no place for an edge
+unfoldable pub linkAt : List ℕ → ℕ → ℕ → List ℕ
+linkAt ls i key = if ltb i 2048 then set (set ls i (getD ls (chainOf key) 0)) (chainOf key) i else ls
+
+-- the links are those of an index of the words: they lead to the first word with a key in as many steps as there are words, and
+-- no link leads to a place where a further word may go
+pub record Indexed (ws ls : List ℕ) : Type 0 where
+  pub long : length ls ≡ 2304
+  pub inside : (p : ℕ) → p < 2304 → getD ls p 0 < 2048 → getD ls p 0 < length ws
+  pub finds : (key k : ℕ) → length ws ≤ k → placeOn k ws ls key (getD ls (chainOf key) 0) ≡ find (keyIs key) ws
 
 -- following as the links lead
 unfoldable pub followLinks : List ClassEntry → List ℕ → List ℕ → ℕ → ℕ → g.Follow

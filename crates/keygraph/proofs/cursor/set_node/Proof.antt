@@ -1,8 +1,8 @@
--- The two stores lie in the nodes' first and second words.
+-- The two stores lie in the nodes' first and second words, and not in those of the edges.
 use mathlib.Core.Path.{_∙_}
 use Prim.Native.Nat.{_+_}
 use lib.ListN.{set, length-set}
-use Rattle.keygraph.proofs.Places.{node-stored}
+use Rattle.keygraph.proofs.Places.{node-stored, node-edges}
 use borrow.Author.Needs.{needs}
 use Rattle.keygraph.proofs.cursor.set_node.Statement.{statement}
 use Rattle.keygraph.proofs.cursor.set_node.Tie as tie
@@ -28,7 +28,10 @@ element-write-words-2 c = search needs
 returns : tie.Need-returns
 returns c = let a = c .args in let ws = a .words .now in let n = a .node in (
   length-set (set ws (2048 + n) (a .p .head)) (3088 + n) (a .p .acts) ∙ length-set ws (2048 + n) (a .p .head) ∙ c .pre .0,
-  λ k. node-stored ws n (a .p .head) (a .p .acts) k (c .pre .1),
+  (
+    λ k. node-stored ws n (a .p .head) (a .p .acts) k (c .pre .1),
+    node-edges ws n (a .p .head) (a .p .acts),
+  ),
 )
 
 pub set-node-spec : {M : Type 1} → statement M

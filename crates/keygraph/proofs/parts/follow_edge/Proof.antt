@@ -30,7 +30,7 @@ returns : tie.Need-returns
 unfolding edgeWords
 returns c = let a = c .before .before .before .before .before .before .before .args in
     let l : length (take 2048 (a .words .now)) ≤ 2048 = omega (arith, length-take 2048 (a .words .now)) in
-    λ ns. c .follow-edge .ensures ∙ c .before .before .before .new .ensures ns (classesOf (a .classes .now) (a .entries)) (a .node) (a .key)
+    λ ns. c .follow-edge .ensures ∙ c .before .before .before .new .ensures .0 ns (classesOf (a .classes .now) (a .entries)) (a .node) (a .key)
     ∙ ap (λ ws. followEdge (classesOf (a .classes .now) (a .entries)) (graphBy ns (map edgeOf ws)) (a .node) (a .key)) (reached-all (a .count) (take 2048 (a .words .now)) l)
 
 pub follow-edge-spec : {M : Type 1} → statement M

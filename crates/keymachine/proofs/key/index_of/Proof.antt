@@ -19,7 +19,7 @@ new-requires c κs = search needs
 
 returns : tie.Need-returns
 unfolding edgeWords
-returns c = let a = c .before .before .before .args in links-lead (a .words .now) (a .counts) (c .new .result .links) (c .new .ensures)
+returns c = let a = c .before .before .before .args in links-lead (a .words .now) (a .counts) (c .new .result .links) (c .new .ensures .0)
 
 pub index-of-spec : {M : Type 1} → statement M
 index-of-spec = tie.close (tie.spec sub-edges part-edges-start part-edges-end new-requires returns)

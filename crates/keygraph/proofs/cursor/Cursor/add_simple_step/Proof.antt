@@ -24,7 +24,7 @@ returns : tie.Need-returns
 returns c = let a = c .before .before .before .before .before .before .before .args in (
   c .before .edge-to .ensures .0,
   restates-in (a .words .now) (a .self) (addSimpleStep (packedOf (a .p) .mode) (eventAt (a .code)) (packedOf (a .p) .action)) (simple-parts (packedOf (a .p) .mode) (eventAt (a .code)) (packedOf (a .p) .action) (cursorIn (a .words .now) (a .self)))
-      (with _ (c .before .before .before .before .before .upsert-node .ensures .1) (then (c .before .before .before .pay .ensures .1) (then (c .before .edge-to .ensures .1) (c .go-owing .ensures _)))),
+      (with _ (c .before .before .before .before .before .upsert-node .ensures .1) (then (c .before .before .before .pay .ensures .1) (then (c .before .edge-to .ensures .1) (c .go-owing .ensures .0 _)))),
 )
 
 pub add-simple-step-spec : {M : Type 1} → statement M

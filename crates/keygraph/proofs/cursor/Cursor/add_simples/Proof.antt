@@ -1,28 +1,41 @@
--- The loop counts down: what the cursor comes to by the times that are left is what the first one comes to by all.
+-- The loop counts down: what the cursor comes to by the times that are left is what the first one comes to by all. The links are those
+-- of an index of the cursor's edges, before the first turn and after each.
 use Prim.Native.Nat.{_≤_, _-_}
 use mathlib.Core.Path.{_≡_, refl, sym, _∙_}
 use native.Mathlib.Omega.{arith}
 use lib.ListN.{length}
 use Rattle.rules.specs.Basics.{_>>=_}
-use Rattle.keyparts.specs.View.{eventAt}
-use Rattle.keygraph.specs.Making.{outcome}
 use Rattle.rules.specs.Graph.{addSimples}
+use Rattle.keyparts.specs.View.{eventAt, Indexed}
+use Rattle.keyparts.proofs.Words.{mode-fits}
+use Rattle.keygraph.specs.Making.{outcome, edgesIn}
+use Rattle.keygraph.proofs.Binds.{leads-same}
 use Rattle.keygraph.proofs.Cursors.{simples-more, simples-none}
 use borrow.Author.Needs.{needs}
 use Rattle.keygraph.proofs.cursor.Cursor.add_simples.Statement.{statement}
 use Rattle.keygraph.proofs.cursor.Cursor.add_simples.Tie as tie
 
 abbrev Inv-loop : tie.InvT-loop
-Inv-loop words₀ n mode code c₀ left₀ words c left = (left ≤ n) × (length words ≡ 4128) × ((outcome words c >>= addSimples left mode (eventAt code)) ≡ (outcome words₀ c₀ >>= addSimples n mode (eventAt code)))
+Inv-loop words₀ n mode code p links₀ c₀ left₀ words links c left = (left ≤ n) × (length words ≡ 4128) × Indexed (edgesIn words c) links × ((outcome words c >>= addSimples left mode (eventAt code)) ≡ (outcome words₀ c₀ >>= addSimples n mode (eventAt code)))
 
 abbrev μ-loop : tie.MeasureT-loop
-μ-loop words₀ n mode code c₀ left₀ words c left = left
+μ-loop words₀ n mode code p links₀ c₀ left₀ words links c left = left
+
+returns : tie.Need-returns Inv-loop μ-loop
+unfolding addSimples
+returns c = let a = c .before .args in (c .before .pre .1, rw (c .if1 .taken) (leads-same (outcome (a .words .now) (a .self))))
+
+empty-requires : tie.Need-empty-requires Inv-loop μ-loop
+empty-requires c κs = search needs
+
+index-of-requires : tie.Need-index-of-requires Inv-loop μ-loop
+index-of-requires c κs = c .before .before .before .before .pre .1
 
 loop-holds : tie.Need-loop-holds Inv-loop μ-loop
-loop-holds c = (search needs, c .pre .1, refl)
+loop-holds c = (search needs, c .before .before .before .before .before .before .pre .1, c .before .index-of .ensures, refl)
 
-add-simple-requires : tie.Need-add-simple-requires Inv-loop μ-loop
-add-simple-requires c κs = (c .before .before .before .pre .0, c .before .before .loop .inv .1)
+step-by-requires : tie.Need-step-by-requires Inv-loop μ-loop
+step-by-requires c κs = (c .before .before .before .loop .inv .1, c .before .before .before .loop .inv .2)
 
 sub-left : tie.Need-sub-left Inv-loop μ-loop
 sub-left c = search needs
@@ -31,12 +44,29 @@ loop-less : tie.Need-loop-less Inv-loop μ-loop
 loop-less c = search needs
 
 loop-again : tie.Need-loop-again Inv-loop μ-loop
-loop-again c = let k = c .before .before .before in let a = c .before .before .before .before .args in
-    (search needs, c .add-simple .ensures .0, simples-more (a .mode) (eventAt (a .code)) (k .loop .left) (k .loop .left - 1) (omega arith) (c .add-simple .ensures .1) ∙ k .loop .inv .2)
+loop-again c = let k = c .before .before .before .before .loop in let a = c .before .before .before .before .before .before .before .before .before .before .before .args in (
+  search needs,
+  c .step-by .ensures .0,
+  c .step-by .ensures .1 .1,
+  simples-more (a .mode) (eventAt (a .code)) (k .left) (k .left - 1) (omega (arith, c .before .before .before .loop-test .taken)) (rw (c .before .before .before .before .before .before .before .before .before .empty .ensures, mode-fits _ (c .before .before .before .before .before .before .before .before .before .before .before .pre .0)) at (c .step-by .ensures .1 .0)) ∙ k .inv .3,
+)
 
-returns : tie.Need-returns Inv-loop μ-loop
-returns c = let k = c .before in let a = c .before .before .args in
-    (k .loop .inv .1, record { is = sym (simples-none (a .mode) (eventAt (a .code)) (outcome (k .loop .words) (k .loop .c)) (k .loop .left) (omega arith)) ∙ k .loop .inv .2 })
+returns-2 : tie.Need-returns-2 Inv-loop μ-loop
+returns-2 c = let k = c .before .loop in let a = c .before .before .before .before .before .before .before .before .args in
+    (k .inv .1, record { is = sym (simples-none (a .mode) (eventAt (a .code)) (outcome (k .words) (k .c)) (k .left) (omega arith)) ∙ k .inv .3 })
 
 pub add-simples-spec : {M : Type 1} → statement M
-add-simples-spec = tie.close (tie.spec Inv-loop μ-loop loop-holds add-simple-requires sub-left loop-less loop-again returns)
+add-simples-spec =
+    tie.close
+    (tie.spec
+    Inv-loop
+    μ-loop
+    returns
+    empty-requires
+    index-of-requires
+    loop-holds
+    step-by-requires
+    sub-left
+    loop-less
+    loop-again
+    returns-2)

@@ -9,7 +9,7 @@ use Rattle.keygraph.proofs.cursor.Cursor.go_owing.Tie as tie
 
 returns : tie.Need-returns
 unfolding outcome
-returns c = let a = c .before .args in let s = a .self in λ ws. alters (s .refusal) (cursorIn ws s) (cursor (graphIn ws (s .counts)) (a .node) (a .owed)) refl
+returns c = let a = c .before .args in let s = a .self in ((λ ws. alters (s .refusal) (cursorIn ws s) (cursor (graphIn ws (s .counts)) (a .node) (a .owed)) refl), refl)
 
 pub go-owing-spec : {M : Type 1} → statement M
 go-owing-spec = tie.close (tie.spec returns)

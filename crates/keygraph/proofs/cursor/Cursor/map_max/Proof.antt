@@ -22,7 +22,7 @@ returns : tie.Need-returns
 unfolding mapLast
 returns c = (
   c .before .add-max .ensures .0,
-  λ s e. with _ (rw e at (c .before .before .before .before .before .add-node .ensures .1)) (then (to-falls _ (c .before .before .before .edge-to .ensures .1)) (then (c .before .add-max .ensures .1) (c .go .ensures _))),
+  λ s e. with _ (rw e at (c .before .before .before .before .before .add-node .ensures .1 .0)) (then (to-falls _ (c .before .before .before .edge-to .ensures .1)) (then (c .before .add-max .ensures .1) (c .go .ensures _))),
 )
 
 pub map-max-spec : {M : Type 1} → statement M

@@ -29,7 +29,7 @@ returns : tie.Need-returns
 unfolding mapLast
 returns c = let a = c .before .before .before .before .before .before .before .before .before .before .before .args in (
   c .before .add-min .ensures .0,
-  λ s e. with _ (rw e at (c .before .before .before .before .before .before .before .before .before .add-node .ensures .1)) (with _ (c .before .before .before .before .before .before .before .add-empty .ensures .1) (then (between-falls _ _ (c .before .before .before .before .before .add-edge .ensures .1)) (then (c .before .before .before .add-edge2 .ensures .1) (next-min (a .mode) (eventAt (a .code)) _ (a .n) _ (c .before .add-min .ensures .1) (c .go .ensures _))))),
+  λ s e. with _ (rw e at (c .before .before .before .before .before .before .before .before .before .add-node .ensures .1 .0)) (with _ (c .before .before .before .before .before .before .before .add-empty .ensures .1) (then (between-falls _ _ (c .before .before .before .before .before .add-edge .ensures .1)) (then (c .before .before .before .add-edge2 .ensures .1) (next-min (a .mode) (eventAt (a .code)) _ (a .n) _ (c .before .add-min .ensures .1) (c .go .ensures _))))),
 )
 
 pub map-min-spec : {M : Type 1} → statement M

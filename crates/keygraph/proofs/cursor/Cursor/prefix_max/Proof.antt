@@ -31,7 +31,7 @@ add-max-requires c κs = (c .before .before .before .before .before .before .bef
 returns-2 : tie.Need-returns-2
 returns-2 c = let a = c .before .before .before .before .before .before .before .before .before .before .args in (
   c .add-max .ensures .0,
-  λ os e. max-prefixes (a .mode) (eventAt (a .code)) (a .n) (a .single) os (sym (c .before .before .before .before .before .before .before .before .before .is-nothing .ensures) ∙ c .before .before .before .before .before .before .before .before .if1 .left) (with _ (rw e at (c .before .before .before .before .before .before .add-node .ensures .1)) (then (to-falls _ (c .before .before .before .before .edge-to .ensures .1)) (then (between-falls _ _ (c .before .before .add-edge .ensures .1)) (c .add-max .ensures .1)))),
+  λ os e. max-prefixes (a .mode) (eventAt (a .code)) (a .n) (a .single) os (sym (c .before .before .before .before .before .before .before .before .before .is-nothing .ensures) ∙ c .before .before .before .before .before .before .before .before .if1 .left) (with _ (rw e at (c .before .before .before .before .before .before .add-node .ensures .1 .0)) (then (to-falls _ (c .before .before .before .before .edge-to .ensures .1)) (then (between-falls _ _ (c .before .before .add-edge .ensures .1)) (c .add-max .ensures .1)))),
 )
 
 pub prefix-max-spec : {M : Type 1} → statement M

@@ -32,7 +32,7 @@ returns : tie.Need-returns
 unfolding prefixLast minTo
 returns c = (
   c .add-min .ensures .0,
-  λ os e. with _ (rw e at (c .before .before .before .before .before .before .before .before .before .before .before .add-node .ensures .1)) (with _ (c .before .before .before .before .before .before .before .before .before .add-empty .ensures .1) (then (c .before .before .before .before .before .before .add-edge .ensures .1) (then (between-falls _ _ (c .before .before .before .before .add-edge2 .ensures .1)) (then (between-falls _ _ (c .before .before .add-edge3 .ensures .1)) (rw (c .before .before .before .before .before .before .before .before .at-least .ensures) at (c .add-min .ensures .1)))))),
+  λ os e. with _ (rw e at (c .before .before .before .before .before .before .before .before .before .before .before .add-node .ensures .1 .0)) (with _ (c .before .before .before .before .before .before .before .before .before .add-empty .ensures .1) (then (c .before .before .before .before .before .before .add-edge .ensures .1) (then (between-falls _ _ (c .before .before .before .before .add-edge2 .ensures .1)) (then (between-falls _ _ (c .before .before .add-edge3 .ensures .1)) (rw (c .before .before .before .before .before .before .before .before .at-least .ensures) at (c .add-min .ensures .1)))))),
 )
 
 pub prefix-min-spec : {M : Type 1} → statement M

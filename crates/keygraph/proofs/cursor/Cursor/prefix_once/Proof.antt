@@ -19,7 +19,7 @@ returns : tie.Need-returns
 unfolding prefixLast chosenOf actionOf
 returns c = let t = c .before .before .before .before .before .before .if1 .taken in (
   c .add-edge .ensures .0,
-  λ single s e. rw t (with _ (rw (e, t) at (c .before .before .before .before .add-node .ensures .1)) (then (c .before .before .edge-to .ensures .1) (between-falls _ _ (c .add-edge .ensures .1)))),
+  λ single s e. rw t (with _ (rw (e, t) at (c .before .before .before .before .add-node .ensures .1 .0)) (then (c .before .before .edge-to .ensures .1) (between-falls _ _ (c .add-edge .ensures .1)))),
 )
 
 edge-to-requires-2 : tie.Need-edge-to-requires-2

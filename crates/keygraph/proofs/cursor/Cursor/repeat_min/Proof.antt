@@ -19,7 +19,7 @@ go-owing-requires c κs = search needs
 
 returns : tie.Need-returns
 returns c = let a = c .before .before .before .before .before .before .before .args in
-    (c .before .min-on .ensures .0, min-repeats (a .mode) (eventAt (a .code)) (a .n) _ (c .before .before .before .before .before .add-empty .ensures .1) (c .before .before .before .add-edge .ensures .1) (c .before .min-on .ensures .1) (c .go-owing .ensures _))
+    (c .before .min-on .ensures .0, min-repeats (a .mode) (eventAt (a .code)) (a .n) _ (c .before .before .before .before .before .add-empty .ensures .1) (c .before .before .before .add-edge .ensures .1) (c .before .min-on .ensures .1) (c .go-owing .ensures .0 _))
 
 pub repeat-min-spec : {M : Type 1} → statement M
 repeat-min-spec = tie.close (tie.spec add-empty-requires add-edge-requires min-on-requires go-owing-requires returns)

@@ -1,6 +1,9 @@
 -- Words that hold no step leave the node as it is. Else the node's mode, which its first word has, is held to theirs: 4 where they
 -- differ, and else the node's words are replaced, if there is such a node. A cursor that was refused before is kept.
+-- The words of the edges stay.
 use native.Mathlib.Omega.{arith}
+use mathlib.Core.Path.{refl, ap}
+use lib.ListN.{take}
 use Rattle.keyparts.specs.View.{packedOf}
 use Rattle.keygraph.specs.View.{graphIn}
 use Rattle.keygraph.specs.Making.{outcome, resultOf, cursorIn}
@@ -15,7 +18,10 @@ returns : tie.Need-returns
 unfolding resultOf outcome
 returns c = let a = c .before .before .before .before .args in let s = a .self in let e = c .before .before .before .before .pre in let g = graphIn (a .words .now) (s .counts) in (
   e,
-  starts-made (s .refusal) (cursorIn (a .words .now) s) (c .before .before .if1 .taken) (settle-made (s .refusal) g g (s .prev) (s .owed) (a .node) (packedOf (a .p) .mode) (a .node) (packedOf (a .p) .action) (rw (c .before .before .if1 .taken) (settle-plain (a .p .head) (a .p .acts) (a .node) g (c .if2 .taken)))),
+  (
+    starts-made (s .refusal) (cursorIn (a .words .now) s) (c .before .before .if1 .taken) (settle-made (s .refusal) g g (s .prev) (s .owed) (a .node) (packedOf (a .p) .mode) (a .node) (packedOf (a .p) .action) (rw (c .before .before .if1 .taken) (settle-plain (a .p .head) (a .p .acts) (a .node) g (c .if2 .taken)))),
+    refl,
+  ),
 )
 
 least-of-requires : tie.Need-least-of-requires
@@ -31,16 +37,22 @@ returns-2 : tie.Need-returns-2
 unfolding resultOf outcome
 returns-2 c = let a = c .before .before .before .before .before .before .before .before .before .before .before .before .before .args in let s = a .self in let e = c .before .before .before .before .before .before .before .before .before .before .before .before .before .pre in let g = graphIn (a .words .now) (s .counts) in (
   c .set-node .ensures .0,
-  starts-made (s .refusal) (cursorIn (a .words .now) s) (c .before .before .before .before .before .before .before .before .before .before .before .if1 .taken) (settle-made (s .refusal) g _ (s .prev) (s .owed) (a .node) (packedOf (a .p) .mode) (a .node) (packedOf (a .p) .action)
-      (rw (c .before .before .before .before .before .before .before .before .before .before .before .if1 .taken) (settle-put (a .words .now) (s .counts) (c .before .before .before .before .before .before .before .before .least-of .result) (a .node) (a .p .head) (a .p .acts) (c .before .before .before .before .before .head-at .result) e (c .before .before .before .before .before .before .before .before .least-of .ensures) (c .before .before .before .before .before .before .before .before .before .if2 .left) (c .before .before .before .before .before .head-at .ensures) (c .set-node .ensures .1 (s .counts)) (c .before .before .before .if3 .taken) (c .before .before .if4 .taken)))),
+  (
+    starts-made (s .refusal) (cursorIn (a .words .now) s) (c .before .before .before .before .before .before .before .before .before .before .before .if1 .taken) (settle-made (s .refusal) g _ (s .prev) (s .owed) (a .node) (packedOf (a .p) .mode) (a .node) (packedOf (a .p) .action)
+        (rw (c .before .before .before .before .before .before .before .before .before .before .before .if1 .taken) (settle-put (a .words .now) (s .counts) (c .before .before .before .before .before .before .before .before .least-of .result) (a .node) (a .p .head) (a .p .acts) (c .before .before .before .before .before .head-at .result) e (c .before .before .before .before .before .before .before .before .least-of .ensures) (c .before .before .before .before .before .before .before .before .before .if2 .left) (c .before .before .before .before .before .head-at .ensures) (c .set-node .ensures .1 .0 (s .counts)) (c .before .before .before .if3 .taken) (c .before .before .if4 .taken)))),
+    ap (take (s .counts .edges)) (c .set-node .ensures .1 .1),
+  ),
 )
 
 returns-3 : tie.Need-returns-3
 unfolding resultOf outcome
 returns-3 c = let a = c .before .before .before .before .before .before .before .before .before .before .before .args in let s = a .self in let e = c .before .before .before .before .before .before .before .before .before .before .before .pre in let g = graphIn (a .words .now) (s .counts) in (
   e,
-  starts-made (s .refusal) (cursorIn (a .words .now) s) (c .before .before .before .before .before .before .before .before .before .if1 .taken) (settle-made (s .refusal) g g (s .prev) (s .owed) (a .node) (packedOf (a .p) .mode) (a .node) (packedOf (a .p) .action)
-      (rw (c .before .before .before .before .before .before .before .before .before .if1 .taken) (settle-past (a .words .now) (s .counts) (c .before .before .before .before .before .before .least-of .result) (a .node) (a .p .head) (a .p .acts) (c .before .before .before .head-at .result) e (c .before .before .before .before .before .before .least-of .ensures) (c .before .before .before .before .before .before .before .if2 .left) (c .before .before .before .head-at .ensures) (c .before .if3 .taken) (c .if4 .left)))),
+  (
+    starts-made (s .refusal) (cursorIn (a .words .now) s) (c .before .before .before .before .before .before .before .before .before .if1 .taken) (settle-made (s .refusal) g g (s .prev) (s .owed) (a .node) (packedOf (a .p) .mode) (a .node) (packedOf (a .p) .action)
+        (rw (c .before .before .before .before .before .before .before .before .before .if1 .taken) (settle-past (a .words .now) (s .counts) (c .before .before .before .before .before .before .least-of .result) (a .node) (a .p .head) (a .p .acts) (c .before .before .before .head-at .result) e (c .before .before .before .before .before .before .least-of .ensures) (c .before .before .before .before .before .before .before .if2 .left) (c .before .before .before .head-at .ensures) (c .before .if3 .taken) (c .if4 .left)))),
+    refl,
+  ),
 )
 
 refused-requires : tie.Need-refused-requires
@@ -50,13 +62,16 @@ returns-4 : tie.Need-returns-4
 unfolding resultOf outcome
 returns-4 c = let a = c .before .before .before .before .before .before .before .before .before .before .before .args in let s = a .self in let e = c .before .before .before .before .before .before .before .before .before .before .before .pre in let g = graphIn (a .words .now) (s .counts) in (
   e,
-  rw (c .refused .ensures) (starts-made (s .refusal) (cursorIn (a .words .now) s) (c .before .before .before .before .before .before .before .before .before .if1 .taken) (settle-made 4 g g (s .prev) (s .owed) 0 (packedOf (a .p) .mode) (a .node) (packedOf (a .p) .action)
-      (settle-differs (a .words .now) (s .counts) (c .before .before .before .before .before .before .least-of .result) (a .node) (a .p .head) (a .p .acts) (c .before .before .before .head-at .result) e (c .before .before .before .before .before .before .least-of .ensures) (c .before .before .before .before .before .before .before .if2 .left) (c .before .before .before .head-at .ensures) (c .before .if3 .left)))),
+  (
+    rw (c .refused .ensures) (starts-made (s .refusal) (cursorIn (a .words .now) s) (c .before .before .before .before .before .before .before .before .before .if1 .taken) (settle-made 4 g g (s .prev) (s .owed) 0 (packedOf (a .p) .mode) (a .node) (packedOf (a .p) .action)
+        (settle-differs (a .words .now) (s .counts) (c .before .before .before .before .before .before .least-of .result) (a .node) (a .p .head) (a .p .acts) (c .before .before .before .head-at .result) e (c .before .before .before .before .before .before .least-of .ensures) (c .before .before .before .before .before .before .before .if2 .left) (c .before .before .before .head-at .ensures) (c .before .if3 .left)))),
+    rw (c .refused .ensures),
+  ),
 )
 
 returns-5 : tie.Need-returns-5
 unfolding outcome
-returns-5 c = let a = c .before .before .args in let s = a .self in (c .before .before .pre, stays-made (s .refusal) (cursorIn (a .words .now) s) (cursorIn (a .words .now) s) (c .if1 .left))
+returns-5 c = let a = c .before .before .args in let s = a .self in (c .before .before .pre, (stays-made (s .refusal) (cursorIn (a .words .now) s) (cursorIn (a .words .now) s) (c .if1 .left), refl))
 
 pub settle-spec : {M : Type 1} → statement M
 settle-spec =

@@ -1,10 +1,10 @@
 -- The loop: the links lead to the edges from place i on. It begins with no edge and ends with all.
 use Prim.Native.Nat.{_≤_, _-_, _<_, min, suc}
-use mathlib.Core.Path.{_≡_, refl, sym, ap, _∙_, subst}
+use mathlib.Core.Path.{_≡_, sym, _∙_, subst}
 use native.Mathlib.Omega.{arith}
-use lib.ListN.{length, getD, set, replicate}
+use lib.ListN.{length, getD, replicate}
 use Rattle.keyparts.specs.View.{reached}
-use Rattle.keyparts.proofs.Links.{length-reached, reached-short, reached-at, Linked, linked-none, linked-more, linked-follow}
+use Rattle.keyparts.proofs.Links.{length-reached, reached-short, reached-at, Linked, linked-none, linked-more, linked-all, indexed-follow}
 use borrow.Author.Needs.{needs}
 use Rattle.keyparts.proofs.index.Index.new.Statement.{statement}
 use Rattle.keyparts.proofs.index.Index.new.Tie as tie
@@ -30,54 +30,34 @@ loop-holds c = let a = c .before .before .before .args in
 sub-i : tie.Need-sub-i Inv-loop μ-loop
 sub-i c = search needs
 
-mul-chain-of : tie.Need-mul-chain-of Inv-loop μ-loop
-mul-chain-of c = search needs
+mul-link : tie.Need-mul-link Inv-loop μ-loop
+mul-link c = search needs
 
-shared-slice-read-chain-of : tie.Need-shared-slice-read-chain-of Inv-loop μ-loop
-shared-slice-read-chain-of c = search needs
+shared-slice-read-link : tie.Need-shared-slice-read-link Inv-loop μ-loop
+shared-slice-read-link c = search needs
 
-chain-of-requires : tie.Need-chain-of-requires Inv-loop μ-loop
-chain-of-requires c κs = search needs
-
-mul-links : tie.Need-mul-links Inv-loop μ-loop
-mul-links c = search needs
-
-array-read-links : tie.Need-array-read-links Inv-loop μ-loop
-array-read-links c = search needs
-
-mul-links-2 : tie.Need-mul-links-2 Inv-loop μ-loop
-mul-links-2 c = search needs
-
-array-write-links : tie.Need-array-write-links Inv-loop μ-loop
-array-write-links c = search needs
-
-cast-links : tie.Need-cast-links Inv-loop μ-loop
-cast-links c = search needs
-
-mul-links-3 : tie.Need-mul-links-3 Inv-loop μ-loop
-mul-links-3 c = search needs
-
-array-write-links-2 : tie.Need-array-write-links-2 Inv-loop μ-loop
-array-write-links-2 c = search needs
+link-requires : tie.Need-link-requires Inv-loop μ-loop
+link-requires c κs = c .before .before .before .loop .inv .1 .long
 
 loop-less : tie.Need-loop-less Inv-loop μ-loop
 loop-less c = search needs
 
 loop-again : tie.Need-loop-again Inv-loop μ-loop
-loop-again c = let a = c .before .before .before .before .before .before .before .args in let l = c .before .before .before .loop in
+loop-again c = let a = c .before .before .before .before .before .before .before .before .args in let l = c .before .before .before .before .loop in let n = c .before .before .before .before .before .least in
     let ws = reached (a .edges .now) (a .count) in
-    let e : c .before .before .before .before .least .result ≡ min (min (a .count) 2048) (length (a .edges .now)) = omega (arith, c .before .before .before .before .least .ensures, c .before .before .before .before .before .least-of .ensures) in
-    let i : l .i ≡ suc (l .i - 1) = omega (arith, c .before .before .loop-test .taken) in
-    let b : l .i - 1 < c .before .before .before .before .least .result = omega (arith, c .before .before .loop-test .taken, l .inv .0) in
+    let e : n .result ≡ min (min (a .count) 2048) (length (a .edges .now)) = omega (arith, n .ensures, c .before .before .before .before .before .before .least-of .ensures) in
+    let i : l .i ≡ suc (l .i - 1) = omega (arith, c .before .before .before .loop-test .taken) in
+    let b : l .i - 1 < n .result = omega (arith, c .before .before .before .loop-test .taken, l .inv .0) in
     let k : l .i - 1 < length ws = omega (arith, length-reached (a .count) (a .edges .now)) in
-    let w : getD ws (l .i - 1) 0 ≡ getD (a .edges .now) (l .i - 1) 0 = reached-at (a .count) (a .edges .now) (l .i - 1) (c .before .before .before .before .least .result) e b in
+    let w : getD ws (l .i - 1) 0 ≡ getD (a .edges .now) (l .i - 1) 0 = reached-at (a .count) (a .edges .now) (l .i - 1) (n .result) e b in
     let m = linked-more ws (reached-short (a .count) (a .edges .now)) (l .links) (l .i - 1) (subst (Linked ws (reached-short (a .count) (a .edges .now)) (l .links)) i (l .inv .1)) k in
-    (search needs, rw (c .chain-of .ensures .0, ← w) m)
+    (search needs, rw (c .link .ensures, ← w) m)
 
 returns : tie.Need-returns Inv-loop μ-loop
 returns c = let a = c .before .before .before .before .before .args in let l = c .before .loop in
     let z : l .i ≡ 0 = omega (arith, c .loop-test .left) in
-    linked-follow (reached (a .edges .now) (a .count)) (reached-short (a .count) (a .edges .now)) (l .links) (subst (Linked (reached (a .edges .now) (a .count)) (reached-short (a .count) (a .edges .now)) (l .links)) z (l .inv .1))
+    let h = linked-all (reached (a .edges .now) (a .count)) (reached-short (a .count) (a .edges .now)) (l .links) (subst (Linked (reached (a .edges .now) (a .count)) (reached-short (a .count) (a .edges .now)) (l .links)) z (l .inv .1)) in
+    (indexed-follow (reached (a .edges .now) (a .count)) (l .links) (reached-short (a .count) (a .edges .now)) h, h)
 
 pub new-spec : {M : Type 1} → statement M
 new-spec =
@@ -89,16 +69,9 @@ new-spec =
     least-requires
     loop-holds
     sub-i
-    mul-chain-of
-    shared-slice-read-chain-of
-    chain-of-requires
-    mul-links
-    array-read-links
-    mul-links-2
-    array-write-links
-    cast-links
-    mul-links-3
-    array-write-links-2
+    mul-link
+    shared-slice-read-link
+    link-requires
     loop-less
     loop-again
     returns)

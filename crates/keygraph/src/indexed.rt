@@ -1,0 +1,86 @@
+// Steps along an event by an index of the edges, for the loops over repeats. A repeat may go 255 times along edges that are
+// there, and a search of all of them for each would take most of the time that a map takes to be read. An index costs as
+// much to make as a few searches, so it is made once for a loop, and an edge that the loop adds is linked as it is added.
+use crate::cursor::Cursor;
+use crate::parts;
+use keyparts::event;
+use keyparts::index;
+use keyparts::node::Packed;
+use keyparts::number;
+ghost use mathlib.Core.Path.{_≡_};
+ghost use lib.ListN.{length};
+ghost use Rattle.rules.specs.Graph as g;
+ghost use Rattle.keyparts.specs.View.{eventAt, packedOf, Indexed};
+ghost use Rattle.keygraph.specs.Making.{Leads, outcome, edgesIn, linkMore, paid};
+
+impl Cursor {
+    // `edge_to`, by the index.
+    pub(crate) fn edge_by(
+        self,
+        words: &mut [u64; 4128],
+        links: &mut [u16; 2304],
+        to: u16,
+        code: u32,
+    ) -> Cursor
+        requires { ⌜ (length (now words) ≡ 4128) × Indexed (edgesIn (now words) self) (now links) ⌝ }
+        ensures { λ r. ⌜ length (now (words .exit)) ≡ 4128 ⌝ }
+        ensures { λ r. ⌜ Leads (outcome (now (words .entry)) self) (g.edgeTo to (eventAt code)) (outcome (now (words .exit)) r) ⌝ }
+        ensures { λ r. ⌜ Indexed (edgesIn (now (words .exit)) r) (now (links .exit)) ⌝ }
+    {
+        if self.refusal == 0 {
+            let k = self.counts.edges;
+            let from = self.prev;
+            let key = number::key_of(from, code);
+            let i = parts::linked_place(words, k, links, key);
+            link_more(links, k, i, key);
+            return self.put_edge(words, i, from, to, code);
+        }
+        self
+    }
+
+    // `pay`, by the index.
+    fn pay_by(self, words: &mut [u64; 4128], links: &mut [u16; 2304], to: u16) -> Cursor
+        requires { ⌜ (length (now words) ≡ 4128) × Indexed (edgesIn (now words) self) (now links) ⌝ }
+        ensures { λ r. ⌜ length (now (words .exit)) ≡ 4128 ⌝ }
+        ensures { λ r. ⌜ Leads (outcome (now (words .entry)) self) (paid to) (outcome (now (words .exit)) r) ⌝ }
+        ensures { λ r. ⌜ Indexed (edgesIn (now (words .exit)) r) (now (links .exit)) ⌝ }
+    {
+        if self.owed {
+            return self.edge_by(words, links, to, event::FALLTHROUGH);
+        }
+        self
+    }
+
+    // `add_simple_step`, by the index.
+    pub(crate) fn step_by(
+        self,
+        words: &mut [u64; 4128],
+        links: &mut [u16; 2304],
+        code: u32,
+        p: Packed,
+    ) -> Cursor
+        requires { ⌜ (length (now words) ≡ 4128) × Indexed (edgesIn (now words) self) (now links) ⌝ }
+        ensures { λ r. ⌜ length (now (words .exit)) ≡ 4128 ⌝ }
+        ensures { λ r. ⌜ Leads (outcome (now (words .entry)) self) (g.addSimpleStep (packedOf p .mode) (eventAt code) (packedOf p .action)) (outcome (now (words .exit)) r) ⌝ }
+        ensures { λ r. ⌜ Indexed (edgesIn (now (words .exit)) r) (now (links .exit)) ⌝ }
+    {
+        let e = parts::linked_edge(words, self.counts.edges, links, self.prev, code);
+        let m = self.upsert_at(words, e, p);
+        let n = m.node;
+        m.cursor
+            .pay_by(words, links, n)
+            .edge_by(words, links, n, code)
+            .go_owing(n, false)
+    }
+}
+
+// An edge that goes behind the last of `count` goes into the index.
+fn link_more(links: &mut [u16; 2304], count: u16, place: usize, key: u64)
+    requires { ⌜ length (now links) ≡ 2304 ⌝ }
+    ensures { λ r. ⌜ now (links .exit) ≡ linkMore (now (links .entry)) count place key ⌝ }
+{
+    if place < (count as usize) {
+        return;
+    }
+    index::link(links, place, key);
+}
