@@ -1,6 +1,7 @@
 // A graph by value, over the functions that work on its words.
 use crate::parts;
 use keyparts::answer::Answer;
+use keyparts::class::ClassTable;
 use keyparts::find;
 use keyparts::find::Found;
 use keyparts::follow::FollowResult;
@@ -75,11 +76,12 @@ impl Graph {
         parts::node_at(&self.words, n, node)
     }
 
-    pub fn follow_edge(self, classes: &[u64], entries: u16, node: u16, key: u16) -> FollowResult
-        ensures { λ r. ⌜ followOf r ≡ g.followEdge (classesOf (now (classes .entry)) entries) (graphOf self) node key ⌝ }
+    pub fn follow_edge(self, classes: ClassTable, node: u16, key: u16) -> FollowResult
+        ensures { λ r. ⌜ followOf r ≡ g.followEdge (classesOf (classes .words) (classes .count)) (graphOf self) node key ⌝ }
     {
         let n = self.counts.edges;
-        parts::follow_edge(&self.words, n, classes, entries, node, key)
+        let entries = classes.count;
+        parts::follow_edge(&self.words, n, &classes.words, entries, node, key)
     }
 
     pub fn has_edges(self, node: u16) -> bool

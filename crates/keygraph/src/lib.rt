@@ -1,5 +1,6 @@
-// The key graph: adding bindings to it, in place and by value, and the graph as a value. Every function is proved equal to
-// the definition of crates/rules/specs/Graph.antt that has its name, by the view of specs/View.antt.
+// The key graph: adding bindings to it, in place and by value, and the graph as a value. A function that has the name of a
+// definition of crates/rules/specs/Graph.antt is proved equal to it, by the view of specs/View.antt; what the others do is
+// said in the same terms.
 //
 // A graph is kept in one array of words with two counts, so that the functions that add work in place and lend one array
 // to each call. What a graph is made of, and what is only read from slices of its words, stands in the crate below and is

@@ -13,7 +13,7 @@ use Rattle.rules.specs.Calls.{Machine, withShared, settled, repeat-call, call, 
 use Rattle.keypairs.specs.Views.{pairOf, pairsOf, trackerOf, trackersOf, fetchedAt, blocks}
 use Rattle.keypairs.proofs.Lists.{length-blocks}
 use Rattle.keypairs.proofs.Sequences.{block, block-long, tracker-at, length-pairs, count-is}
-use Rattle.keymachine.proofs.Lists.{drop-take, take-min}
+use Rattle.keyloop.proofs.Lists.{drop-take, take-min}
 
 -- the words of a block's pairs
 block-words : (b : List ℕ) (n : ℕ) → length b ≡ 65 → n ≡ length (trackerOf b .pairs) → map pairOf (take n (drop 1 b)) ≡ trackerOf b .pairs

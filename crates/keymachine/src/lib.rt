@@ -1,13 +1,10 @@
-// The modal machine: the key loop over a key graph, and the machine by value above it. Every function is proved equal to the
-// definition of crates/rules/specs that has its name, by the views of specs/Views.antt.
+// The modal machine by value: each call hands back the machine after it, with the answer. Every call is proved equal to the
+// rules' `call` on what the machine means, by the views of specs/Views.antt; find and hint to what the rules leave free.
 //
-// What a key changes is kept in arrays of words that are lent to the functions below, so that a key copies nothing; a
-// machine by value stands above them. What a machine keeps and is opened with stands in the crate below and is handed on
-// from here.
-pub mod key;
+// The key loop, and what a machine keeps and is opened with, stand in the crates below and are handed on from here.
 pub mod machine;
-mod turn;
 
+pub use keyloop::key;
 pub use keypairs::context;
 pub use keypairs::pair;
 pub use keypairs::rule;

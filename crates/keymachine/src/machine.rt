@@ -1,6 +1,6 @@
 // The modal machine by value: each call takes a machine and hands back the machine after it, with the answer. A refused call
 // hands back the machine before it.
-use crate::key;
+use keyloop::key;
 use keygraph::answer::Answer;
 use keygraph::find::Found;
 use keygraph::graph::Graph;
@@ -281,7 +281,7 @@ impl ModalMachine {
     pub fn repeat(self, sequence: u16, over: Override) -> Settled
         ensures { λ r. ⌜ (machineOf (r .machine), answerOf (r .answer)) ≡ call graphKind (machineOf self) (Repeats sequence (overOf over)) ⌝ }
     {
-        if 8 <= sequence {
+        if ModalMachine::SEQUENCES <= sequence {
             return Settled {
                 machine: self,
                 answer: Answer::Refused(1),
@@ -292,7 +292,7 @@ impl ModalMachine {
         let n = tracker::fetch_at(&mut sequences, sequence, over);
         let k = number::least_of(s.queued, 256);
         let queued = n + k;
-        if 256 < queued {
+        if ModalMachine::WAITING < queued {
             return Settled {
                 machine: self,
                 answer: Answer::Refused(5),

@@ -2,7 +2,6 @@
 use Prim.Native.Nat.{ℕ, _+_, _-_, _*_, _/_, _%_, _≤_, _<_}
 use mathlib.Core.Path.{_≡_, refl, ap, _∙_}
 use mathlib.Core.Bool.{Bool, true, false}
-use mathlib.Core.Option.{none}
 use mathlib.Core.List.{List, [], _∷_, map, map-append}
 use native.Mathlib.Omega.{arith}
 use native.Mathlib.Numerals.{add-one}
@@ -10,7 +9,7 @@ use lib.ListN.{length, take, drop, set, getD, length-take, length-map, length-dr
 use lib.Seq.{drop-cons, take-suc, take-suc-set, take-all, getD-take, getD-set-same, set-set}
 use lib.Dec.{leb}
 use borrow.Author.Tests.{ltb-true, leb-true, le-leb, lt-leb}
-use Rattle.rules.specs.Basics.{every}
+use Rattle.rules.specs.Basics.{every, Result, accept, refuse, unless}
 use Rattle.rules.specs.Values.{isMode, isSequence}
 use Rattle.rules.specs.Tables.{ModeEntry, Rule, Tables, classValid, modeValid, ruleValid, tablesValid, noEntry}
 use Rattle.rules.proofs.Tests.{and-l, and-r}
@@ -23,10 +22,6 @@ use Rattle.keypairs.specs.Views.{blocks, ruleOf, rulesOf, ruleBy, classB
 use Rattle.keypairs.proofs.Lists.{getD-mapped, length-blocks, getD-blocks, blocks-set}
 
 -- ---- words
-
-pub opt-zero : optOf 0 ≡ none
-unfolding optOf
-opt-zero = refl
 
 pub rule-is : (mode seq status low high : ℕ) → mode < 16 → seq < 8 → status < 8 → low < 65536 → high < 65536
     → ruleOf (mode + 16 * seq + 128 * status + 1024 * low + 67108864 * high) ≡ record { mode = mode; low = low; high = high; sequence = seq; status = status }
@@ -194,3 +189,21 @@ module _ (x : declared.Tables) (lc : length (x .classes) ≡ 16) (lm : length (x
                 → tables (classesOf cs (x .sizes .classes)) (modesOf (x .sizes .modes) ms) (rulesOf (x .sizes .rules) rs) ≡ wholeTables x
             unfolding wholeTables
             all-words cs ms rs ec em er = rw (ec, em, er, classes-are, modes-are, rules-are)
+
+-- ---- tables that were packed: b tells whether they were in range, and w is what the words mean
+
+module _ (w t : Tables) where
+  pub packed : (b v : Bool) → b ≡ v → (b ≡ true → w ≡ t) → unless b 1 (accept w) ≡ unless v 1 (accept t)
+  packed true v e h = rw (← e) (ap accept (h refl))
+  packed false v e h = rw (← e) refl
+
+  pub packed-valid : (b v : Bool) → unless b 1 (accept w) ≡ unless v 1 (accept t) → b ≡ v
+  packed-valid true true e = refl
+  packed-valid true false e = let z : _≡_ {A = ℕ} 0 1 = cc in absurd (omega arith)
+  packed-valid false true e = let z : _≡_ {A = ℕ} 0 1 = cc in absurd (omega arith)
+  packed-valid false false e = refl
+
+  pub packed-words : (b v : Bool) → unless b 1 (accept w) ≡ unless v 1 (accept t) → b ≡ true → w ≡ t
+  packed-words true true e h = cc
+  packed-words true false e h = let z : _≡_ {A = ℕ} 0 1 = cc in absurd (omega arith)
+  packed-words false v e h = let z : _≡_ {A = ℕ} 0 1 = cc in absurd (omega arith)

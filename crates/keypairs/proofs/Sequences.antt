@@ -232,7 +232,7 @@ module _ (ws : List ℕ) (q : ℕ) (o : Option Context) (e : length ws ≡ 520) 
   unfolding noTracker
   fetched-out h =
       let l : length (trackersOf ws) ≤ q = omega (arith, length-map (blocks 65 8 ws) trackerOf, length-blocks 65 8 ws) in
-      rw (set-out (trackersOf ws) q (fetch o (getD (trackersOf ws) q noTracker)) l, List·getD-eq-default (trackersOf ws) noTracker l)
+      rw (set-out, List·getD-eq-default (trackersOf ws) noTracker l)
 
   -- new is its block after fetching, k words were lent
   pub fetched-in : q < 8 → (new : List ℕ) (k n : ℕ) → k ≡ 65 → length new ≡ 65

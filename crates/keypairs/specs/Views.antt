@@ -6,7 +6,7 @@ use mathlib.Core.Option.{Option, none, some, Option·getD}
 use mathlib.Core.List.{List, [], _∷_, map}
 use lib.Dec.{eqb}
 use lib.ListN.{length, take, drop, set, getD}
-use Rattle.rules.specs.Basics.{if_then_else_, Result, accept, refuse, _>>=_}
+use Rattle.rules.specs.Basics.{if_then_else_, Result, accept, refuse, unless, _>>=_}
 use Rattle.rules.specs.Values as v
 use Rattle.rules.specs.Tables as t
 use Rattle.rules.specs.KeyLoop as key
@@ -25,6 +25,7 @@ use Rattle.keypairs.specs.declared.tables.Actions.{Actions}
 use Rattle.keypairs.specs.declared.tables.ClassEntry.{ClassEntry}
 use Rattle.keypairs.specs.declared.tables.Tables.{Tables}
 use Rattle.keypairs.specs.declared.tables.TableWords.{TableWords}
+use Rattle.keypairs.specs.declared.tables.Packed.{Packed}
 use Rattle.keypairs.specs.declared.tables.ModeEntry.{ModeEntry}
 use Rattle.keypairs.specs.declared.state.State.{State}
 use Rattle.keypairs.specs.declared.state.Sizes.{Sizes}
@@ -168,6 +169,10 @@ tablesOf z cs ms rs = tables (classesOf cs (z .classes)) (modesOf (z .modes) ms)
 
 abbrev pub wordsOf : TableWords → t.Tables
 wordsOf w = tablesOf (w .sizes) (w .classes) (w .modes) (w .rules)
+
+-- tables that were packed: those of the words, if they were in range
+abbrev pub packedBy : Packed → Result t.Tables
+packedBy p = unless (p .valid) 1 (accept (wordsOf (p .words)))
 
 -- a state over tables, a queue, sequences and a trail
 abbrev pub sharedOf : State → t.Tables → List ℕ → List ℕ → List ℕ → key.Shared

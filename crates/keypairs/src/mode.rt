@@ -18,7 +18,7 @@ ghost use Rattle.rules.specs.Tables as t;
 ghost use Rattle.rules.specs.KeyLoop as key;
 ghost use Rattle.rules.specs.Graph as g;
 ghost use Rattle.rules.specs.Calls.{graphNavigator};
-ghost use Rattle.keyparts.specs.View.{maybeOf, fourOf, optOf};
+ghost use Rattle.keyparts.specs.View.{maybeOf, fourOf};
 ghost use Rattle.keypairs.specs.Views.{outcome, rulesOf, modesOf, entryBy, actionsBy, tables, sharedOf, stateOf, giveGoto};
 
 // The number of a refusal, or 0 and the state that was come to.
@@ -42,16 +42,6 @@ fn actions_in(w: u64, count: u16) -> Actions
     }
 }
 
-// 0 is none, and else one more than the number.
-fn maybe_in(x: u64) -> Maybe
-    ensures { λ r. ⌜ maybeOf r ≡ optOf x ⌝ }
-{
-    if x == 0 {
-        return Maybe::Nothing;
-    }
-    Maybe::Just(number::low(x - 1))
-}
-
 // The entry of a mode; empty lists and no next mode where the table does not reach.
 pub(crate) fn mode_entry(modes: &[u64], count: u16, mode: u16) -> ModeEntry
     ensures { λ r. ⌜ entryBy r ≡ t.modeEntry (modesOf count (now (modes .entry))) mode ⌝ }
@@ -62,7 +52,7 @@ pub(crate) fn mode_entry(modes: &[u64], count: u16, mode: u16) -> ModeEntry
         let head = word::word_at(modes, i * 3 + 2);
         let enter = actions_in(word::word_at(modes, i * 3), word::bits3(head));
         let unmapped = actions_in(word::word_at(modes, i * 3 + 1), word::bits3(head / 8));
-        let next = maybe_in(head / 64);
+        let next = node::unopt(head / 64);
         return ModeEntry {
             enter: enter,
             unmapped: unmapped,

@@ -3,6 +3,7 @@
 use crate::rule::Rule;
 use crate::state::Sizes;
 use keyparts::class;
+use keyparts::node;
 use keyparts::number;
 use keyparts::step;
 use keyparts::step::Maybe;
@@ -12,10 +13,10 @@ ghost use mathlib.Core.List.{_∷_, [], map};
 ghost use Prim.Native.Nat.{_≤_, _<_};
 ghost use lib.Dec.{leb};
 ghost use lib.ListN.{length, take};
-ghost use Rattle.rules.specs.Basics.{every};
+ghost use Rattle.rules.specs.Basics.{every, accept, unless};
 ghost use Rattle.rules.specs.Tables as t;
-ghost use Rattle.keyparts.specs.View.{maybeOf, fourOf, optOf, classesOf};
-ghost use Rattle.keypairs.specs.Views.{actionsBy, wholeActions, entryBy, entryOf, wholeEntry, classBy, ruleBy, modesOf, rulesOf, wholeTables, wordsOf};
+ghost use Rattle.keyparts.specs.View.{fourOf, classesOf};
+ghost use Rattle.keypairs.specs.Views.{actionsBy, wholeActions, entryBy, entryOf, wholeEntry, classBy, ruleBy, modesOf, rulesOf, wholeTables, wordsOf, packedBy};
 
 pub struct ClassEntry {
     pub class: u16,
@@ -98,7 +99,7 @@ impl Actions {
     pub fn valid(self) -> bool
         ensures { λ r. ⌜ r ≡ leb (length (wholeActions self)) 4 ⌝ }
     {
-        self.count <= 4
+        self.count <= Actions::MOST
     }
 
     fn pack(self) -> u64
@@ -106,16 +107,6 @@ impl Actions {
     {
         let items = self.items;
         number::four_word(items)
-    }
-}
-
-// 0 is none, and else one more than the number.
-fn pack_maybe(m: Maybe) -> u64
-    ensures { λ r. ⌜ (optOf r ≡ maybeOf m) × (r ≤ 65536) ⌝ }
-{
-    match m {
-        Maybe::Nothing => return 0,
-        Maybe::Just(n) => return (n as u64) + 1,
     }
 }
 
@@ -145,7 +136,7 @@ impl ModeEntry {
         EntryWords {
             enter: enter.pack(),
             unmapped: unmapped.pack(),
-            head: (enter.count as u64) + 8 * (unmapped.count as u64) + 64 * pack_maybe(next),
+            head: (enter.count as u64) + 8 * (unmapped.count as u64) + 64 * node::opt(next),
         }
     }
 }
@@ -277,25 +268,24 @@ impl Tables {
 
     // Are the tables in range? If so, the words are theirs.
     pub fn pack(self) -> Packed
-        ensures { λ r. ⌜ r .valid ≡ t.tablesValid (wholeTables self) ⌝ }
-        ensures { λ r. ⌜ (r .valid ≡ true → wordsOf (r .words) ≡ wholeTables self) ⌝ }
+        ensures { λ r. ⌜ packedBy r ≡ unless (t.tablesValid (wholeTables self)) 1 (accept (wholeTables self)) ⌝ }
     {
         let z = self.sizes;
-        if 16 < z.classes {
+        if Tables::CLASSES < z.classes {
             return Packed::refused();
         }
         let c = self.pack_classes();
         if !c.valid {
             return Packed::refused();
         }
-        if 16 < z.modes {
+        if Tables::MODES < z.modes {
             return Packed::refused();
         }
         let m = self.pack_modes();
         if !m.valid {
             return Packed::refused();
         }
-        if 64 < z.rules {
+        if Tables::RULES < z.rules {
             return Packed::refused();
         }
         let r = self.pack_rules();

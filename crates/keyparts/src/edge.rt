@@ -8,7 +8,7 @@ ghost use Rattle.rules.specs.Graph as g;
 ghost use Rattle.keyparts.specs.View.{eventAt, edgesOf, graphBy, maybeOf, find, keyIs};
 
 // The place of the first of the first `count` words with this key in its upper 48 bits, or their number. Two words a turn:
-// this loop is most of what a key costs.
+// this loop is most of what adding a binding costs.
 pub fn scan(edges: &[u64], count: u16, key: u64) -> usize
     ensures { λ r. ⌜ r ≡ find (keyIs key) (take count (now (edges .entry))) ⌝ }
 {

@@ -1,6 +1,6 @@
 // The parts of a key graph: events, paths, steps and classes, nodes and edges as words, the answer of a call, and what is
-// only read from them: following a key, finding, range tests. Every function is proved equal to the rules by the view of
-// specs/View.antt.
+// only read from them: following a key, finding, range tests. What they do is said in the rules' terms, and of searches and
+// links in those of specs/View.antt, which is also the view of the words.
 //
 // The functions that are called for every key take slices of words and copy nothing.
 pub mod answer;

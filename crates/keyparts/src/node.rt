@@ -30,7 +30,8 @@ pub struct Packed {
     pub acts: u64,
 }
 
-fn opt(m: Maybe) -> u64
+// What may be missing, in a word: 0 for nothing, and else one more than the number.
+pub fn opt(m: Maybe) -> u64
     ensures { λ r. ⌜ (optOf r ≡ maybeOf m) × (r < 131072) ⌝ }
 {
     match m {
@@ -39,7 +40,7 @@ fn opt(m: Maybe) -> u64
     }
 }
 
-fn unopt(x: u64) -> Maybe
+pub fn unopt(x: u64) -> Maybe
     ensures { λ r. ⌜ maybeOf r ≡ optOf x ⌝ }
 {
     if x == 0 {

@@ -61,7 +61,7 @@ impl Step {
     pub fn valid(self) -> bool
         ensures { λ r. ⌜ r ≡ v.stepValid (wholeStep self) ⌝ }
     {
-        if 4 < self.count {
+        if Step::ACTIONS < self.count {
             return false;
         }
         let next = self.next;

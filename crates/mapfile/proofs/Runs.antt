@@ -2,14 +2,14 @@
 use Prim.Native.Nat.{ℕ, _+_, _*_, _≤_, min}
 use native.Mathlib.Omega.{arith}
 use native.Mathlib.Nat.{zero-add, min-eq-left, min-eq-right}
-use mathlib.Core.Path.{_≡_, refl, sym, ap, _∙_, subst}
+use mathlib.Core.Path.{_≡_, refl, sym, ap, ap₂, _∙_, subst}
 use mathlib.Core.List.{List, [], _∷_, _++_, append-nil}
 use lib.ListN.{length, drop, replicate, drop-of-length-le}
 use Rattle.rules.specs.Basics.{Result, accept, refuse, _>>=_}
 use Rattle.rules.specs.Values.{Pair}
 use Rattle.rules.specs.Calls.{Machine, graphKind}
 use Rattle.rules.specs.MapFile.{readMap}
-use Rattle.rules.specs.Run.{readKeys, playKeys, pairBytes, run, codeOf, outputOf}
+use Rattle.rules.specs.Run.{readKeys, playKeys, pairBytes, run, codeOf, outputOf, answered}
 use Rattle.keyparts.specs.declared.answer.Answer.{Answer}
 use Rattle.keyparts.specs.declared.answer.Answer.the-variants.{Accepted, Refused as RefusedMap}
 use Rattle.keyparts.specs.View.{resultBy}
@@ -49,10 +49,10 @@ front : (bs out : List ℕ) → laid 0 bs out ≡ bs ++ drop (length bs) out
 unfolding laid
 front bs out = ap (λ n. bs ++ drop n out) (zero-add (length bs))
 
-pub written-ends : (x : Result (List Pair)) (n : ℕ) (out out₁ : List ℕ) → Ends x (Wrote n) out out₁ → (n * 32 ≡ codeOf x) × (out₁ ≡ outputOf out x)
+pub written-ends : (x : Result (List Pair)) (n : ℕ) (out out₁ : List ℕ) → Ends x (Wrote n) out out₁ → _≡_ {A = ℕ × List ℕ} (n * 32, out₁) (answered out x)
 unfolding codeOf outputOf
 written-ends (accept ps) n out out₁ h =
-    (ap (λ k. k * 32) (same (h .told)), h .kept ps refl ∙ front (pairBytes ps) out)
+    ap₂ (λ (k : ℕ) (o : List ℕ). (k, o)) (ap (λ k. k * 32) (same (h .told))) (h .kept ps refl ∙ front (pairBytes ps) out)
   where
     same : {k : ℕ} → Wrote n ≡ Wrote k → n ≡ k
     same e = cc
@@ -61,13 +61,13 @@ written-ends (refuse m) n out out₁ h = absurd (never (h .told))
     never : Wrote n ≡ Refused m → ⊥
     never e = let z : _≡_ {A = ℕ} 0 1 = cc in omega arith
 
-pub refused-ends : (x : Result (List Pair)) (n : ℕ) (out out₁ out₂ : List ℕ) → Ends x (Refused n) out out₁ → out₂ ≡ replicate (length out) 0 ++ drop (length out) out₁ → length out₁ ≡ length out → (n ≡ codeOf x) × (out₂ ≡ outputOf out x)
+pub refused-ends : (x : Result (List Pair)) (n : ℕ) (out out₁ out₂ : List ℕ) → Ends x (Refused n) out out₁ → out₂ ≡ replicate (length out) 0 ++ drop (length out) out₁ → length out₁ ≡ length out → _≡_ {A = ℕ × List ℕ} (n, out₂) (answered out x)
 unfolding codeOf outputOf
 refused-ends (accept ps) n out out₁ out₂ h e l = absurd (never (h .told))
   where
     never : {k : ℕ} → Refused n ≡ Wrote k → ⊥
     never e = let z : _≡_ {A = ℕ} 0 1 = cc in omega arith
-refused-ends (refuse m) n out out₁ out₂ h e l = let k : length out₁ ≤ length out = omega arith in (same (h .told), e ∙ ap (λ r. replicate (length out) 0 ++ r) (drop-of-length-le out₁ k) ∙ append-nil (replicate (length out) 0))
+refused-ends (refuse m) n out out₁ out₂ h e l = let k : length out₁ ≤ length out = omega arith in ap₂ (λ (k : ℕ) (o : List ℕ). (k, o)) (same (h .told)) (e ∙ ap (λ r. replicate (length out) 0 ++ r) (drop-of-length-le out₁ k) ∙ append-nil (replicate (length out) 0))
   where
     same : Refused n ≡ Refused m → n ≡ m
     same e = cc

@@ -8,8 +8,9 @@ use lib.ListN.{length, set, take, drop, length-append, length-drop}
 use lib.Seq.{sets-eq, take-at, drop-at, drop-drop, length-take-le}
 use borrow.Author.Tests.{lt-ltb, le-ltb, le-leb, lt-leb}
 use Rattle.rules.specs.Numbers.{bytesOf}
+use Rattle.mapfile.specs.declared.write.Put.{Put}
 use Rattle.mapfile.specs.declared.write.Put.the-variants.{At, Full}
-use Rattle.mapfile.specs.View.{laid, putAt, putOut}
+use Rattle.mapfile.specs.View.{laid, put}
 
 -- ---- a number's bytes
 
@@ -70,10 +71,10 @@ module _ (at : ℕ) (xs bs out : List ℕ) (h : at + length xs + length bs ≤ l
 
 -- ---- where it fits
 
-pub put-in : (at : ℕ) (bs out : List ℕ) → at + length bs ≤ length out → (At (at + length bs) ≡ putAt (length out) at bs) × (laid at bs out ≡ putOut at bs out)
-unfolding putAt putOut
-put-in at bs out h = (rw (le-leb (at + length bs) (length out) h), rw (le-leb (at + length bs) (length out) h))
+pub put-in : (at : ℕ) (bs out : List ℕ) → at + length bs ≤ length out → _≡_ {A = Put × List ℕ} (At (at + length bs), laid at bs out) (put at bs out)
+unfolding put
+put-in at bs out h = rw (le-leb (at + length bs) (length out) h)
 
-pub put-full : (at : ℕ) (bs out : List ℕ) → length out < at + length bs → (Full ≡ putAt (length out) at bs) × (out ≡ putOut at bs out)
-unfolding putAt putOut
-put-full at bs out h = (rw (lt-leb (at + length bs) (length out) h), rw (lt-leb (at + length bs) (length out) h))
+pub put-full : (at : ℕ) (bs out : List ℕ) → length out < at + length bs → _≡_ {A = Put × List ℕ} (Full, out) (put at bs out)
+unfolding put
+put-full at bs out h = rw (lt-leb (at + length bs) (length out) h)

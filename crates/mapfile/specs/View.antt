@@ -51,12 +51,9 @@ bytesOfPair p = bytesOf (p .action) ++ bytesOf (p .context .count) ++ bytesOf (p
 unfoldable pub laid : ℕ → List ℕ → List ℕ → List ℕ
 laid at bs out = take at out ++ bs ++ drop (at + length bs) out
 
--- where they fit below the end
-unfoldable pub putAt : ℕ → ℕ → List ℕ → Put
-putAt end at bs = if leb (at + length bs) end then At (at + length bs) else Full
-
-unfoldable pub putOut : ℕ → List ℕ → List ℕ → List ℕ
-putOut at bs out = if leb (at + length bs) (length out) then laid at bs out else out
+-- the place after them and the output, where they fit below its end; else nothing is written
+unfoldable pub put : ℕ → List ℕ → List ℕ → Put × List ℕ
+put at bs out = if leb (at + length bs) (length out) then (At (at + length bs), laid at bs out) else (Full, out)
 
 -- ---- the run
 

@@ -3,7 +3,7 @@ use crate::bind;
 use keygraph::answer::Answer;
 use keygraph::graph::Counts;
 use keygraph::graph::Graph;
-use keymachine::state::Sizes;
+use keypairs::state::Sizes;
 use mapparts::cursor::Cursor;
 use mapparts::tables;
 ghost use mathlib.Core.Path.{_≡_};

@@ -1,19 +1,13 @@
 // Writing pairs, each as three numbers.
 use crate::write;
-use keymachine::pair::Pair;
+use keygraph::number;
+use keypairs::pair::Pair;
 ghost use mathlib.Core.Path.{_≡_};
-ghost use Prim.Native.Nat.{_+_, _≤_, min};
+ghost use Prim.Native.Nat.{_+_, _≤_};
 ghost use lib.ListN.{length};
 ghost use Rattle.rules.specs.Run.{pairBytes};
 ghost use Rattle.keypairs.specs.Views.{pairOf, pairsOf};
 ghost use Rattle.mapfile.specs.View.{laid, bytesOfPair};
-
-fn least(n: u16, most: usize) -> usize
-    ensures { λ r. ⌜ r ≡ min n most ⌝ }
-{
-    let k = n as usize;
-    if k < most { k } else { most }
-}
 
 fn pair_size(word: u64) -> usize
     ensures { λ r. ⌜ (r ≡ length (bytesOfPair (pairOf word))) × (r ≤ 9) ⌝ }
@@ -30,7 +24,7 @@ fn pair_size(word: u64) -> usize
 pub(crate) fn pairs_size(queue: &[u64], count: u16) -> usize
     ensures { λ r. ⌜ r ≡ length (pairBytes (pairsOf count (now (queue .entry)))) ⌝ }
 {
-    let n = least(count, queue.len());
+    let n = number::least(count, queue.len());
     let mut size = 0usize;
     let mut i = 0usize;
     while i < n {
@@ -62,7 +56,7 @@ pub(crate) fn store_pairs(out: &mut [u8], from: usize, queue: &[u64], count: u16
     requires { ⌜ from + length (pairBytes (pairsOf count (now queue))) ≤ length (now out) ⌝ }
     ensures { λ r. ⌜ (r ≡ from + length (pairBytes (pairsOf count (now (queue .entry))))) × (now (out .exit) ≡ laid from (pairBytes (pairsOf count (now (queue .entry)))) (now (out .entry))) ⌝ }
 {
-    let n = least(count, queue.len());
+    let n = number::least(count, queue.len());
     let mut at = from;
     let mut i = 0usize;
     while i < n {

@@ -4,10 +4,10 @@ use crate::map;
 use crate::pairs;
 use keygraph::answer::Answer;
 use keygraph::graph::Counts;
-use keymachine::context::Context;
-use keymachine::key;
-use keymachine::state::Sizes;
-use keymachine::state::State;
+use keypairs::context::Context;
+use keyloop::key;
+use keypairs::state::Sizes;
+use keypairs::state::State;
 use mapparts::keys;
 use mapparts::number;
 use mapparts::number::Read;
@@ -20,7 +20,7 @@ ghost use Rattle.rules.specs.Calls.{graphKind, graphNavigator, fresh};
 ghost use Rattle.rules.specs.Run.{readKeys, playKeys, run};
 ghost use Rattle.keygraph.specs.View.{graphIn};
 ghost use Rattle.keypairs.specs.Views.{tablesOf};
-ghost use Rattle.keymachine.specs.Views.{linkNavigator};
+ghost use Rattle.keyloop.specs.Views.{linkNavigator};
 ghost use Rattle.mapfile.specs.View.{machineBy, Within, Ends};
 
 // How many bytes were written, or the number of the refusal.

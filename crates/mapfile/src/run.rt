@@ -5,7 +5,7 @@ use crate::write;
 ghost use mathlib.Core.Path.{_≡_};
 ghost use Prim.Native.Nat.{min};
 ghost use lib.ListN.{length};
-ghost use Rattle.rules.specs.Run.{run, codeOf, outputOf};
+ghost use Rattle.rules.specs.Run.{run, answered};
 
 // The bytes of the output that a run uses at most.
 pub const MOST_OUTPUT: usize = 65536;
@@ -23,7 +23,7 @@ fn room_of(length: usize) -> usize
 // it is zeros.
 #[no_mangle]
 pub extern "C" fn keymap_run(map: &[u8], keys: &[u8], output: &mut [u8], budget: u16) -> u64
-    ensures { λ r. ⌜ (r ≡ codeOf (run (now (map .entry)) (now (keys .entry)) budget (length (now (output .entry))))) × (now (output .exit) ≡ outputOf (now (output .entry)) (run (now (map .entry)) (now (keys .entry)) budget (length (now (output .entry))))) ⌝ }
+    ensures { λ r. ⌜ (r, now (output .exit)) ≡ answered (now (output .entry)) (run (now (map .entry)) (now (keys .entry)) budget (length (now (output .entry)))) ⌝ }
 {
     let end = output.len();
     let room = room_of(end);

@@ -4,7 +4,7 @@ ghost use Prim.Native.Nat.{_+_, _≤_, _<_};
 ghost use mathlib.Core.List.{_++_};
 ghost use lib.ListN.{length, drop, replicate};
 ghost use Rattle.rules.specs.Numbers.{bytesOf};
-ghost use Rattle.mapfile.specs.View.{laid, putAt, putOut};
+ghost use Rattle.mapfile.specs.View.{laid, put};
 
 // The place after what was written, or that it does not fit: then nothing is written.
 pub enum Put {
@@ -42,7 +42,7 @@ pub(crate) fn store(out: &mut [u8], at: usize, value: u16)
 }
 
 pub fn put_number(out: &mut [u8], at: usize, value: u16) -> Put
-    ensures { λ r. ⌜ (r ≡ putAt (length (now (out .entry))) at (bytesOf value)) × (now (out .exit) ≡ putOut at (bytesOf value) (now (out .entry))) ⌝ }
+    ensures { λ r. ⌜ (r, now (out .exit)) ≡ put at (bytesOf value) (now (out .entry)) ⌝ }
 {
     let n = size_of(value);
     if out.len() < at {

@@ -1,4 +1,4 @@
-// A number as bytes: groups of seven bits, lowest first, 80 set on all but the last, in the shortest form.
+// A number as bytes: groups of seven bits, lowest first, 0x80 set on all but the last, in the shortest form.
 ghost use mathlib.Core.Path.{_≡_};
 ghost use mathlib.Core.List.{_++_};
 ghost use Prim.Native.Nat.{_+_, _≤_, _<_};

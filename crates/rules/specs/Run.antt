@@ -73,6 +73,10 @@ unfoldable pub outputOf : List ℕ → Result (List Pair) → List ℕ
 outputOf lent (accept ps) = pairBytes ps ++ drop (length (pairBytes ps)) lent
 outputOf lent (refuse n) = replicate (length lent) 0
 
+-- what C gets of a run on the output that it lent: one number, and the output
+abbrev pub answered : List ℕ → Result (List Pair) → ℕ × List ℕ
+answered lent r = (codeOf r, outputOf lent r)
+
 -- ---- `keyplay`
 
 -- the map's length, the map, then keys: 9 if the input is shorter

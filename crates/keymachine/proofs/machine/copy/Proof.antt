@@ -5,7 +5,7 @@ use native.Mathlib.Omega.{arith}
 use lib.ListN.{length, drop, length-set}
 use lib.Seq.{paste, paste-zero}
 use borrow.Author.Needs.{needs}
-use Rattle.keymachine.proofs.Lists.{paste-turn}
+use Rattle.keyloop.proofs.Lists.{paste-turn}
 use Rattle.keymachine.proofs.machine.copy.Statement.{statement}
 use Rattle.keymachine.proofs.machine.copy.Tie as tie
 

@@ -46,15 +46,15 @@ bits3-requires-2 c κs = search needs
 actions-in-requires-2 : tie.Need-actions-in-requires-2
 actions-in-requires-2 c κs = search needs
 
-maybe-in-requires : tie.Need-maybe-in-requires
-maybe-in-requires c κs = search needs
+unopt-requires : tie.Need-unopt-requires
+unopt-requires c κs = search needs
 
 returns : tie.Need-returns
 unfolding entryBy
 returns c = let a = c .before .before .before .before .before .before .before .before .before .before .before .args in
     entry-in (a .modes .now) (a .count) (c .before .before .before .before .before .before .before .before .before .least .result) (a .mode) (c .before .before .before .before .before .before .before .before .before .least .ensures) (c .before .before .before .before .before .before .before .before .if1 .taken) (c .before .before .before .before .before .before .word-at2 .result) (c .before .before .before .word-at3 .result) (c .before .before .before .before .before .before .before .word-at .result)
     (c .before .before .before .before .before .before .word-at2 .ensures) (c .before .before .before .word-at3 .ensures) (c .before .before .before .before .before .before .before .word-at .ensures) _
-    (rw (c .before .before .before .before .actions-in .ensures, c .before .actions-in2 .ensures, c .maybe-in .ensures, c .before .before .before .before .before .bits3 .ensures .0, c .before .before .bits32 .ensures .0))
+    (rw (c .before .before .before .before .actions-in .ensures, c .before .actions-in2 .ensures, c .unopt .ensures, c .before .before .before .before .before .bits3 .ensures .0, c .before .before .bits32 .ensures .0))
 
 returns-2 : tie.Need-returns-2
 unfolding entryBy noEntry
@@ -77,6 +77,6 @@ mode-entry-spec =
     word-at-requires-3
     bits3-requires-2
     actions-in-requires-2
-    maybe-in-requires
+    unopt-requires
     returns
     returns-2)

@@ -1,8 +1,9 @@
 -- It fits where the bytes left are as many as the number's, and then `store` lays them; else nothing is written.
 use native.Mathlib.Omega.{arith}
-use mathlib.Core.Path.{ap, _∙_}
+use mathlib.Core.Path.{ap₂, _∙_}
+use mathlib.Core.List.{List}
 use Rattle.rules.specs.Numbers.{bytesOf}
-use Prim.Native.Nat.{_+_}
+use Prim.Native.Nat.{ℕ, _+_}
 use Rattle.mapfile.specs.declared.write.Put.the-variants.{At}
 use Rattle.mapfile.proofs.Writing.{put-in, put-full}
 use borrow.Author.Needs.{needs}
@@ -32,8 +33,8 @@ same-length c = search needs
 
 returns-3 : tie.Need-returns-3
 returns-3 c =
-    let p = put-in (c .before .before .before .before .before .before .before .before .args .at) (bytesOf (c .before .before .before .before .before .before .before .before .args .value)) (c .before .before .before .before .before .before .before .before .args .out .now) (omega arith) in
-    (ap (λ n. At (c .before .before .before .before .before .before .before .before .args .at + n)) (c .before .before .before .before .before .before .size-of .ensures .0) ∙ p .0, c .before .before .store .ensures ∙ p .1)
+    let a = c .before .before .before .before .before .before .before .before .args in
+    ap₂ (λ (n : ℕ) (o : List ℕ). (At (a .at + n), o)) (c .before .before .before .before .before .before .size-of .ensures .0) (c .before .before .store .ensures) ∙ put-in (a .at) (bytesOf (a .value)) (a .out .now) (omega arith)
 
 pub put-number-spec : {M : Type 1} → statement M
 put-number-spec =

@@ -25,18 +25,18 @@ mul-t9 c = search needs
 add-t10 : tie.Need-add-t10
 add-t10 c = let k = entry-ranges (c .before .before .before .before .before .before .args .self) (c .before .before .before .before .before .before .pre) in omega (arith, k .0, k .1)
 
-pack-maybe-requires : tie.Need-pack-maybe-requires
-pack-maybe-requires c κs = search needs
+opt-requires : tie.Need-opt-requires
+opt-requires c κs = search needs
 
 mul-t12 : tie.Need-mul-t12
-mul-t12 c = omega (arith, c .pack-maybe .ensures .1)
+mul-t12 c = omega (arith, c .opt .ensures .1)
 
 add-t13 : tie.Need-add-t13
-add-t13 c = let k = entry-ranges (c .before .before .before .before .before .before .before .args .self) (c .before .before .before .before .before .before .before .pre) in omega (arith, k .0, k .1, c .pack-maybe .ensures .1)
+add-t13 c = let k = entry-ranges (c .before .before .before .before .before .before .before .args .self) (c .before .before .before .before .before .before .before .pre) in omega (arith, k .0, k .1, c .opt .ensures .1)
 
 returns : tie.Need-returns
 returns c = let s = c .before .before .before .before .before .before .before .args .self in let l : length (s .enter .items) ≡ 4 = search needs in let m : length (s .unmapped .items) ≡ 4 = search needs in
-    entry-is s (c .before .before .before .before .pack .result) (c .before .before .before .pack2 .result) (c .pack-maybe .result) (c .before .before .before .before .before .before .before .pre) l m (c .before .before .before .before .pack .ensures) (c .before .before .before .pack2 .ensures) (c .pack-maybe .ensures .0)
+    entry-is s (c .before .before .before .before .pack .result) (c .before .before .before .pack2 .result) (c .opt .result) (c .before .before .before .before .before .before .before .pre) l m (c .before .before .before .before .pack .ensures) (c .before .before .before .pack2 .ensures) (c .opt .ensures .0)
 
 pub pack-spec : {M : Type 1} → statement M
 pack-spec =
@@ -48,7 +48,7 @@ pack-spec =
     cast-t8
     mul-t9
     add-t10
-    pack-maybe-requires
+    opt-requires
     mul-t12
     add-t13
     returns)

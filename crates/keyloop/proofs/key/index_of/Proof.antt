@@ -1,9 +1,9 @@
 -- The slice is the part of the words that the definitions name, and the index's links lead as its edges do.
 use borrow.Author.Needs.{needs}
 use Rattle.keyparts.specs.View.{edgeWords}
-use Rattle.keymachine.proofs.Navigators.{links-lead}
-use Rattle.keymachine.proofs.key.index_of.Statement.{statement}
-use Rattle.keymachine.proofs.key.index_of.Tie as tie
+use Rattle.keyloop.proofs.Navigators.{links-lead}
+use Rattle.keyloop.proofs.key.index_of.Statement.{statement}
+use Rattle.keyloop.proofs.key.index_of.Tie as tie
 
 sub-edges : tie.Need-sub-edges
 sub-edges c = search needs

@@ -1,10 +1,10 @@
 -- The arms are those of the definition.
 use mathlib.Core.Path.{_≡_, refl}
 use Rattle.keyparts.specs.View.{nodeOf, actionOf, stepOf}
-use Rattle.keymachine.proofs.Rounds.{land-empty, land-root, land-step}
+use Rattle.keyloop.proofs.Rounds.{land-empty, land-root, land-step}
 use borrow.Author.Needs.{needs}
-use Rattle.keymachine.proofs.turn.land.Statement.{statement}
-use Rattle.keymachine.proofs.turn.land.Tie as tie
+use Rattle.keyloop.proofs.turn.land.Statement.{statement}
+use Rattle.keyloop.proofs.turn.land.Tie as tie
 
 enum-told : tie.Need-enum-told
 enum-told c = search needs

@@ -7,7 +7,7 @@ use native.Mathlib.Omega.{arith}
 use native.Mathlib.Nat.{zero-add}
 use native.Mathlib.Numerals.{add-one}
 use lib.ListN.{length, take, drop, set, getD, length-take, length-drop, length-append, length-set, drop-of-length-le}
-use Rattle.keymachine.proofs.Lists.{drop-take}
+use Rattle.keyloop.proofs.Lists.{drop-take}
 use lib.Seq.{getD-drop, drop-cons, paste, paste-suc, length-paste, length-paste-head, set-at, drop-at, length-take-le, take-nil, drop-set-lt, getD-set-same}
 
 module _ (stack trail : List ℕ) (at n key : ℕ) (es : length stack ≡ 130) (et : length trail ≡ 64) (h0 : 0 < n) (h1 : n ≤ 64) (h2 : n ≤ at) (h3 : at ≤ 130) where

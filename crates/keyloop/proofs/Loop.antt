@@ -14,7 +14,7 @@ use borrow.Author.Tests.{lt-ltb, le-ltb, le-leb, lt-leb}
 use Rattle.rules.specs.Basics.{if_then_else_, Result, accept, refuse, _>>=_, unless}
 use Rattle.rules.specs.Values.{Event, Step}
 use Rattle.rules.specs.KeyLoop.{Shared, withTrail, State, at, clearTrail, KeyResult, Navigator, Turn, InputResult, Again, ClearTrail, Consumed, NeedMore, Unmapped, RunStep, RetryAfter, runHook, unmapped, step, after, round, proceed, loop, inputKey}
-use Rattle.keymachine.proofs.Stack.{weight, weight-cons, weight-nil, weight-append, weight-drop, length-weight, drop-put}
+use Rattle.keyloop.proofs.Stack.{weight, weight-cons, weight-nil, weight-append, weight-drop, length-weight, drop-put}
 
 abbrev pub stopped : ℕ → ℕ → KeyResult ℕ
 stopped r n = record { rounds = r; result = refuse n }

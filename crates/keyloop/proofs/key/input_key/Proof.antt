@@ -12,14 +12,14 @@ use Rattle.keyparts.specs.View.{stepOf, classesOf, edgesOf, edgeWords}
 use Rattle.keygraph.specs.View.{graphIn}
 use Rattle.keypairs.specs.Views.{tablesOf, stateOf}
 use Rattle.keypairs.proofs.Lists.{outcome-ok, outcome-no}
-use Rattle.keymachine.specs.declared.turn.InputResult.{InputResult}
-use Rattle.keymachine.specs.Views.{linkNavigator, resultBy}
-use Rattle.keymachine.proofs.Lists.{take-min}
-use Rattle.keymachine.proofs.Stack.{weight, weight-most, drop-put}
-use Rattle.keymachine.proofs.Navigators.{step-same, unmapped-same}
-use Rattle.keymachine.proofs.Loop.{Round, Held, Lens, lens-zero, take-more, back-none, back-some, held-start, held-pop, held-done, held-from, held-anew, held-room, held-out, met-again, met-clear, met-consumed, met-more, met-full, met-big, met-unmapped, met-unmapped-refused, met-step, met-step-refused, met-retry, met-retry-refused}
-use Rattle.keymachine.proofs.key.input_key.Statement.{statement}
-use Rattle.keymachine.proofs.key.input_key.Tie as tie
+use Rattle.keyloop.specs.declared.turn.InputResult.{InputResult}
+use Rattle.keyloop.specs.Views.{linkNavigator, resultBy}
+use Rattle.keyloop.proofs.Lists.{take-min}
+use Rattle.keyloop.proofs.Stack.{weight, weight-most, drop-put}
+use Rattle.keyloop.proofs.Navigators.{step-same, unmapped-same}
+use Rattle.keyloop.proofs.Loop.{Round, Held, Lens, lens-zero, take-more, back-none, back-some, held-start, held-pop, held-done, held-from, held-anew, held-room, held-out, met-again, met-clear, met-consumed, met-more, met-full, met-big, met-unmapped, met-unmapped-refused, met-step, met-step-refused, met-retry, met-retry-refused}
+use Rattle.keyloop.proofs.key.input_key.Statement.{statement}
+use Rattle.keyloop.proofs.key.input_key.Tie as tie
 
 abbrev Inv-loop : tie.InvT-loop
 Inv-loop words counts links classes modes rules sizes queue₀ sequences₀ trail₀ start trailed first budget stack₀ top₀ s₀ n₀ rounds₀ key₀ queue sequences trail stack top s n rounds key =

@@ -3,11 +3,11 @@ use mathlib.Core.Path.{_≡_, refl, sym, ap, _∙_}
 use Rattle.keyparts.specs.View.{nodeOf, eventOf, followOf, nodesOf, edgesOf, classesOf, reached, followLinks, edgeWords, headWords, actWords}
 use Rattle.keygraph.specs.View.{graphIn}
 use Rattle.keypairs.specs.Views.{sharedOf, contextOf}
-use Rattle.keymachine.specs.Views.{resultBy}
-use Rattle.keymachine.proofs.Rounds.{by-result, by-state, falls-result, falls-state, stuck-result, stuck-state}
+use Rattle.keyloop.specs.Views.{resultBy}
+use Rattle.keyloop.proofs.Rounds.{by-result, by-state, falls-result, falls-state, stuck-result, stuck-state}
 use borrow.Author.Needs.{needs}
-use Rattle.keymachine.proofs.turn.turn.Statement.{statement}
-use Rattle.keymachine.proofs.turn.turn.Tie as tie
+use Rattle.keyloop.proofs.turn.turn.Statement.{statement}
+use Rattle.keyloop.proofs.turn.turn.Tie as tie
 
 sub-edges : tie.Need-sub-edges
 sub-edges c = search needs

@@ -4,11 +4,11 @@ use mathlib.Core.Path.{_≡_, refl, sym, ap, _∙_}
 use native.Mathlib.Omega.{arith}
 use lib.ListN.{length, take, drop, getD, length-set}
 use lib.Seq.{paste, paste-zero}
-use Rattle.keymachine.proofs.Lists.{paste-turn}
-use Rattle.keymachine.proofs.Stack.{back-length, back-is}
+use Rattle.keyloop.proofs.Lists.{paste-turn}
+use Rattle.keyloop.proofs.Stack.{back-length, back-is}
 use borrow.Author.Needs.{needs}
-use Rattle.keymachine.proofs.key.put_back.Statement.{statement}
-use Rattle.keymachine.proofs.key.put_back.Tie as tie
+use Rattle.keyloop.proofs.key.put_back.Statement.{statement}
+use Rattle.keyloop.proofs.key.put_back.Tie as tie
 
 abbrev Inv-loop : tie.InvT-loop
 Inv-loop stack₀ top trail n key base rest i₀ stack i = (i ≤ rest) × (length stack ≡ 130) × (stack ≡ paste stack₀ base (drop 1 trail) i)

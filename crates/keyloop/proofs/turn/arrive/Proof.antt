@@ -1,10 +1,10 @@
 -- The arms and tests are those of the definition.
 use mathlib.Core.Path.{_≡_, refl, sym, _∙_}
 use Rattle.keyparts.specs.View.{nodeOf, actionOf, stepOf, graphBy, edgesOf}
-use Rattle.keymachine.proofs.Rounds.{arrive-empty, arrive-root, arrive-step, arrive-more, arrive-unmapped}
+use Rattle.keyloop.proofs.Rounds.{arrive-empty, arrive-root, arrive-step, arrive-more, arrive-unmapped}
 use borrow.Author.Needs.{needs}
-use Rattle.keymachine.proofs.turn.arrive.Statement.{statement}
-use Rattle.keymachine.proofs.turn.arrive.Tie as tie
+use Rattle.keyloop.proofs.turn.arrive.Statement.{statement}
+use Rattle.keyloop.proofs.turn.arrive.Tie as tie
 
 enum-told : tie.Need-enum-told
 enum-told c = search needs
