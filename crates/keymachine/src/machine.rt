@@ -1,12 +1,12 @@
 // The modal machine by value: each call takes a machine and hands back the machine after it, with the answer. A refused call
 // hands back the machine before it.
-use keyloop::key;
 use keygraph::answer::Answer;
 use keygraph::find::Found;
 use keygraph::graph::Graph;
 use keygraph::number;
 use keygraph::path::EdgePath;
 use keygraph::step::Step;
+use keyloop::key;
 use keypairs::context::Context;
 use keypairs::context::Override;
 use keypairs::mode;

@@ -68,8 +68,8 @@ returns-7 : tie.Need-returns-7
 returns-7 c = let n = lengths (c .before .before .before .before .before .before .before .before .before .before .before .before .before .before .before .before .before .before) in let x = c .before .before .before .before .before .before .before .before .before .before .before .before .before .before .before .before .before .before .before .args .self in
     let v = not-false _ (c .before .before .before .if6 .left) in
     packed _ (wholeTables x) _ _
-      (sym v ∙ c .before .before .before .before .before .pack-rules .ensures .0 ∙ rules-too x (n .0) (n .1) (n .2) (c .before .before .before .before .before .before .before .before .before .before .before .before .before .before .before .before .if1 .left) (sym (c .before .before .before .before .before .before .before .before .before .before .before .before .before .before .before .pack-classes .ensures .0) ∙ not-false _ (c .before .before .before .before .before .before .before .before .before .before .before .before .before .if2 .left)) (c .before .before .before .before .before .before .before .before .before .before .before .if3 .left) (sym (c .before .before .before .before .before .before .before .before .before .before .pack-modes .ensures .0) ∙ not-false _ (c .before .before .before .before .before .before .before .before .if4 .left)) (c .before .before .before .before .before .before .if5 .left))
-      (λ t. all-words x (n .0) (n .1) (n .2) (c .before .before .before .before .before .before .before .before .before .before .before .before .before .before .before .before .if1 .left) (sym (c .before .before .before .before .before .before .before .before .before .before .before .before .before .before .before .pack-classes .ensures .0) ∙ not-false _ (c .before .before .before .before .before .before .before .before .before .before .before .before .before .if2 .left)) (c .before .before .before .before .before .before .before .before .before .before .before .if3 .left) (sym (c .before .before .before .before .before .before .before .before .before .before .pack-modes .ensures .0) ∙ not-false _ (c .before .before .before .before .before .before .before .before .if4 .left)) (c .before .before .before .before .before .before .if5 .left) (c .before .before .before .before .before .before .before .before .before .before .before .before .before .before .before .pack-classes .result .words) (c .before .before .before .before .before .before .before .before .before .before .pack-modes .result .words) (c .before .before .before .before .before .pack-rules .result .words) (c .before .before .before .before .before .before .before .before .before .before .before .before .before .before .before .pack-classes .ensures .1 (not-false _ (c .before .before .before .before .before .before .before .before .before .before .before .before .before .if2 .left))) (c .before .before .before .before .before .before .before .before .before .before .pack-modes .ensures .1 (not-false _ (c .before .before .before .before .before .before .before .before .if4 .left))) (c .before .before .before .before .before .pack-rules .ensures .1 v))
+    (sym v ∙ c .before .before .before .before .before .pack-rules .ensures .0 ∙ rules-too x (n .0) (n .1) (n .2) (c .before .before .before .before .before .before .before .before .before .before .before .before .before .before .before .before .if1 .left) (sym (c .before .before .before .before .before .before .before .before .before .before .before .before .before .before .before .pack-classes .ensures .0) ∙ not-false _ (c .before .before .before .before .before .before .before .before .before .before .before .before .before .if2 .left)) (c .before .before .before .before .before .before .before .before .before .before .before .if3 .left) (sym (c .before .before .before .before .before .before .before .before .before .before .pack-modes .ensures .0) ∙ not-false _ (c .before .before .before .before .before .before .before .before .if4 .left)) (c .before .before .before .before .before .before .if5 .left))
+    (λ t. all-words x (n .0) (n .1) (n .2) (c .before .before .before .before .before .before .before .before .before .before .before .before .before .before .before .before .if1 .left) (sym (c .before .before .before .before .before .before .before .before .before .before .before .before .before .before .before .pack-classes .ensures .0) ∙ not-false _ (c .before .before .before .before .before .before .before .before .before .before .before .before .before .if2 .left)) (c .before .before .before .before .before .before .before .before .before .before .before .if3 .left) (sym (c .before .before .before .before .before .before .before .before .before .before .pack-modes .ensures .0) ∙ not-false _ (c .before .before .before .before .before .before .before .before .if4 .left)) (c .before .before .before .before .before .before .if5 .left) (c .before .before .before .before .before .before .before .before .before .before .before .before .before .before .before .pack-classes .result .words) (c .before .before .before .before .before .before .before .before .before .before .pack-modes .result .words) (c .before .before .before .before .before .pack-rules .result .words) (c .before .before .before .before .before .before .before .before .before .before .before .before .before .before .before .pack-classes .ensures .1 (not-false _ (c .before .before .before .before .before .before .before .before .before .before .before .before .before .if2 .left))) (c .before .before .before .before .before .before .before .before .before .before .pack-modes .ensures .1 (not-false _ (c .before .before .before .before .before .before .before .before .if4 .left))) (c .before .before .before .before .before .pack-rules .ensures .1 v))
 
 pub pack-spec : {M : Type 1} → statement M
 pack-spec =
