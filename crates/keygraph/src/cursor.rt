@@ -105,8 +105,8 @@ impl Cursor {
     }
 
     // An edge at the place that a search for its start and event gave: it goes in for the one that stands there, and else
-    // behind the last, which is the place that a search without a hit gives. The links of an index of the edges are those
-    // of the new edges as they are, or, where there is an edge more, once that one is linked.
+    // behind the last, which is the place that a search without a hit gives. An index stays true, but that an edge more is
+    // yet to be linked.
     pub(crate) fn put_edge(
         self,
         words: &mut [u64; 4128],

@@ -1,6 +1,6 @@
 // Steps along an event by an index of the edges, for the loops over repeats. A repeat may go 255 times along edges that are
-// there, and a search of all of them for each would take most of the time that a map takes to be read. An index costs as
-// much to make as a few searches, so it is made once for a loop, and an edge that the loop adds is linked as it is added.
+// there, and would search all of them three times for each. An index costs as much to make as a few searches, so it is made
+// once for a loop, and an edge that the loop adds is linked as it goes in.
 use crate::cursor::Cursor;
 use crate::parts;
 use keyparts::event;

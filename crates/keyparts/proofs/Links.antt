@@ -2,9 +2,9 @@
 -- to what was the first before. No link led to its place, so the others lead where they led, and a search for its key goes along
 -- the chain that it is on. An index is made so from the last edge to the first; and an edge that goes behind the last one, with a
 -- key that none has, may be the first of its chain as well.
-use Prim.Native.Nat.{ℕ, zero, suc, _+_, _-_, _*_, _/_, _%_, _<_, _≤_, min, zero-le}
+use Prim.Native.Nat.{ℕ, zero, suc, _+_, _-_, _*_, _/_, _%_, _<_, _≤_, min}
 use mathlib.Core.Path.{_≡_, refl, sym, ap, _∙_, subst}
-use mathlib.Core.Bool.{Bool, true, false, _&&_}
+use mathlib.Core.Bool.{Bool, true, false}
 use mathlib.Core.List.{List, [], _∷_, _++_, map}
 use mathlib.Core.Option.{Option, none, some}
 use native.Mathlib.Omega.{arith}
@@ -19,7 +19,6 @@ use Rattle.rules.specs.Graph.{isEdge, endIn, getEdge, followFirst, followEdge, 
 use Rattle.keyparts.specs.View.{eventAt, codeOf, edgeOf, graphBy, find, keyIs, reached, chainOf, placeOn, linkedPlace, endAt, linkedEnd, linkAt, followLinks, Indexed}
 use Rattle.rules.proofs.Tests.{and-l, and-r, by-cases, event-is}
 use Rattle.keyparts.proofs.Words.{code-event, edge-key}
-use Rattle.keyparts.proofs.Finds.{end-found, end-none}
 
 -- ---- the words that are reached
 
@@ -74,7 +73,7 @@ module _ (ls : List ℕ) (q key : ℕ) (long : length ls ≡ 2304) (hq : q < 204
   link-old : (p : ℕ) → (p ≡ q → ⊥) → (p ≡ chainOf key → ⊥) → getD (linkAt ls q key) p 0 ≡ getD ls p 0
   link-old p d f = rw link-is (getD-set-other (set ls q (getD ls (chainOf key) 0)) (chainOf key) p q 0 f ∙ getD-set-other ls q p (getD ls (chainOf key) 0) 0 d)
 
-  pub link-long : length (linkAt ls q key) ≡ 2304
+  link-long : length (linkAt ls q key) ≡ 2304
   link-long = rw link-is (length-set (set ls q (getD ls (chainOf key) 0)) (chainOf key) q ∙ length-set ls q (getD ls (chainOf key) 0) ∙ long)
 
   -- what holds of the place and of every link holds of every link after
@@ -92,6 +91,7 @@ module _ (ws : List ℕ) (short : length ws ≤ 2048) (ls : List ℕ) (long : le
   low-place : q < 2048
   low-place = omega arith
 
+  -- from any other place a search goes as before
   behind : (key k p : ℕ) → (p ≡ q → ⊥) → placeOn k ws (linkAt ls q (w / 65536)) key p ≡ placeOn k ws ls key p
   unfolding placeOn
   behind key zero p d = refl
@@ -110,6 +110,7 @@ module _ (ws : List ℕ) (short : length ws ≤ 2048) (ls : List ℕ) (long : le
 
   -- if the search led to x before, it leads to the place now where that has the key
   module _ (key most x : ℕ) (before : (k : ℕ) → most ≤ k → placeOn k ws ls key (getD ls (chainOf key) 0) ≡ x) where
+    -- on its own chain the word is looked at first
     own : (k : ℕ) → most ≤ k → chainOf key ≡ chainOf (w / 65536) → placeOn (suc k) ws (linkAt ls q (w / 65536)) key q ≡ (if keyIs key w then q else x)
     unfolding placeOn
     own k m e =
@@ -303,9 +304,9 @@ module _ (ws : List ℕ) (w : ℕ) (ls : List ℕ) (room : length ws < 2048) (h 
 -- ---- what an index leads to
 
 -- an edge for the event has the event's key
-on-chain : (n : ℕ) (ev : Event) (w : ℕ) → isEdge n ev (edgeOf w) ≡ true → n + codeOf ev * 65536 ≡ w / 65536
+edge-has : (n : ℕ) (ev : Event) (w : ℕ) → isEdge n ev (edgeOf w) ≡ true → n + codeOf ev * 65536 ≡ w / 65536
 unfolding isEdge edgeOf
-on-chain n ev w h =
+edge-has n ev w h =
     let a = eqb-true (w / 65536 % 65536) n (and-l _ _ h) in
     let e = event-is (eventAt (w / 65536 / 65536)) ev (and-r (eqb (w / 65536 % 65536) n) _ h) in
     let c : codeOf ev ≡ w / 65536 / 65536 = ap codeOf (sym e) ∙ code-event (w / 65536 / 65536) in
@@ -336,12 +337,12 @@ end-first n ev (x ∷ ws) =
     first true f q = refl
     first false f q =
         sym (end-never n ev ws (λ w. by-cases (isEdge n ev (edgeOf w))
-        (λ t. sym (same-edge n ev x w (q ∙ on-chain n ev w t)) ∙ f)
+        (λ t. sym (same-edge n ev x w (q ∙ edge-has n ev w t)) ∙ f)
         (λ t. t)))
 
     later : (b : Bool) → isEdge n ev (edgeOf x) ≡ b → (x / 65536 ≡ n + codeOf ev * 65536 → ⊥) → endAt ws n ev (find (keyIs (n + codeOf ev * 65536)) ws) ≡ endIn (map edgeOf ws) n ev
         → endAt (x ∷ ws) n ev (suc (find (keyIs (n + codeOf ev * 65536)) ws)) ≡ (if b then some (edgeOf x .to) else endIn (map edgeOf ws) n ev)
-    later true f d ih = absurd (d (sym (on-chain n ev x f)))
+    later true f d ih = absurd (d (sym (edge-has n ev x f)))
     later false f d ih = rw (ltb-suc (find (keyIs (n + codeOf ev * 65536)) ws) (length ws)) ih
 
 module _ (ws ls : List ℕ) (short : length ws ≤ 2048) (h : Indexed ws ls) where

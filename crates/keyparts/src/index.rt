@@ -1,7 +1,7 @@
-// An index of the edges, made once for many keys: the end of an edge is found by its node and its event without a search of
-// all edges. Edges of one node and one event are on one of 256 chains. An edge has a link to the next on its chain, and
-// behind the 2,048 links of the edges stand the links to the first edge of each chain. Every value of the links leads
-// somewhere, and the search ends on all of them.
+// An index of the edges, made once for many keys, or for the many steps of a repeat: an edge is found by its node and its
+// event without a search of all edges. Edges of one node and one event are on one of 256 chains. An edge has a link to the
+// next on its chain, and behind the 2,048 links of the edges stand the links to the first edge of each chain. Every value
+// of the links leads somewhere, and the search ends on all of them.
 use crate::number;
 use crate::step::Maybe;
 ghost use mathlib.Core.Path.{_≡_};
