@@ -36,6 +36,7 @@ const CORE_KEYS: usize = 100_000;
 const RUN_KEYS: usize = 60_000;
 const VALUE_KEYS: usize = 2_000;
 const KIND_KEYS: usize = 20_000;
+const CALL_TIMES: u16 = 2_000;
 const ROOM: usize = 65_536;
 
 /// A map and a tape, in the forms that the two sides take.
@@ -123,6 +124,11 @@ fn ns(times: Times) -> String {
     format!("{:.0} ({:.0})", times.best, times.median)
 }
 
+/// Microseconds with two places, for calls that take little.
+fn hundredths(times: Times) -> String {
+    format!("{:.2} ({:.2})", times.best / 1e3, times.median / 1e3)
+}
+
 fn us(times: Times) -> String {
     format!("{:.1} ({:.1})", times.best / 1e3, times.median / 1e3)
 }
@@ -183,6 +189,32 @@ fn call_rows(works: &[Work]) {
         let value = value.less(reading).each(calls);
         let (lent, verdict) = lent_cells(work, calls);
         println!("| {bindings} | {} | {} | {lent} | {verdict} |", us(value), target(value.best <= 10e3));
+    }
+    each_call_rows(works);
+}
+
+/// Microseconds of each call by value, at the fewest and the most bindings.
+fn each_call_rows(works: &[Work]) {
+    let ends = [&works[0], &works[works.len() - 1]];
+    ends.iter().for_each(|work| ours::check_calls(&work.bytes));
+    println!(
+        "\n| call by value | µs at {} bindings | at {} | at most 10 µs |",
+        BINDINGS[0],
+        BINDINGS[BINDINGS.len() - 1]
+    );
+    println!("|---|---|---|---|");
+    for (which, what) in ours::CALLS.iter().enumerate() {
+        let times = ends.map(|work| {
+            let turn = |times: u16| {
+                clock(|| {
+                    black_box(ours::call(&work.bytes, which, black_box(times)));
+                })
+            };
+            let [calls, reading] = compare([&mut || turn(CALL_TIMES), &mut || turn(0)]);
+            calls.less(reading).each(CALL_TIMES as usize)
+        });
+        let met = times.iter().all(|t| t.best <= 10e3);
+        println!("| {what} | {} | {} | {} |", hundredths(times[0]), hundredths(times[1]), target(met));
     }
 }
 

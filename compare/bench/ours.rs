@@ -8,6 +8,7 @@ extern "C" {
     fn bench_keys_in_place(map: *const u8, map_count: usize, keys: *const u16, keys_count: usize, budget: u16) -> u64;
     fn bench_keys_by_value(map: *const u8, map_count: usize, keys: *const u16, keys_count: usize, budget: u16) -> u64;
     fn bench_other_calls(map: *const u8, map_count: usize) -> u32;
+    fn bench_call(map: *const u8, map_count: usize, which: u16, times: u16) -> u64;
 }
 
 /// The run's result; its pairs stand in the output.
@@ -40,6 +41,34 @@ pub fn by_value(map: &[u8], keys: &[u16]) -> Sum {
 pub fn other_calls(map: &[u8]) -> (u16, u16) {
     let answer = unsafe { bench_other_calls(map.as_ptr(), map.len()) };
     (answer as u16, (answer >> 16) as u16)
+}
+
+/// The calls by value, in the order of `bench_call`'s numbers.
+pub const CALLS: [&str; 10] = [
+    "open, with 16 modes and 64 rules",
+    "add_mapping, two new keys",
+    "add_prefix, two new keys, with a step",
+    "input_key",
+    "pop, 256 pairs waiting",
+    "repeat, 64 pairs remembered",
+    "reset_mode",
+    "mode",
+    "find, mostly of an action that no step has",
+    "free_nodes",
+];
+
+/// The call of a number, so many times, on the machine of a map. The answer depends on what each call gave.
+pub fn call(map: &[u8], which: usize, times: u16) -> u64 {
+    unsafe { bench_call(map.as_ptr(), map.len(), which as u16, times) }
+}
+
+/// What one call leaves shows that it was not refused: a binding more has two nodes, and other calls leave so many pairs.
+pub fn check_calls(map: &[u8]) {
+    const RESET: usize = 6;
+    const A_NODE: u64 = 31;
+    for (which, more) in [(1, 2 * A_NODE), (2, 2 * A_NODE), (3, 1), (4, 255), (5, 64)] {
+        assert_eq!(call(map, which, 1), call(map, RESET, 1) + more, "{}", CALLS[which]);
+    }
 }
 
 /// Calls on one machine that is lent: `--cfg host` says that the archive of the crate `host` is there.
