@@ -101,7 +101,6 @@ impl Work {
         self.must_be("keymap_run", &self.keys[..RUN_KEYS], run);
         self.must_be("the key loop in place", &self.keys, ours::in_place(&self.bytes, &self.keys));
         self.must_be("the machine by value", few, ours::by_value(&self.bytes, few));
-        #[cfg(host)]
         self.must_be("the lent machine", few, ours::lent::Lent::open(&self.bytes).press(few));
     }
 }
@@ -218,7 +217,6 @@ fn each_call_rows(works: &[Work]) {
     }
 }
 
-#[cfg(host)]
 fn lent_cells(work: &Work, calls: usize) -> (String, &'static str) {
     let [lent] = compare([&mut || {
         let mut machine = ours::lent::Lent::open(&work.bytes);
@@ -228,11 +226,6 @@ fn lent_cells(work: &Work, calls: usize) -> (String, &'static str) {
     }]);
     let lent = lent.each(calls);
     (us(lent), target(lent.best <= 10e3))
-}
-
-#[cfg(not(host))]
-fn lent_cells(_: &Work, _: usize) -> (String, &'static str) {
-    ("left out: no crate host".into(), "-")
 }
 
 /// Milliseconds to read a map: a run without keys.
@@ -346,7 +339,6 @@ fn stack_rows(works: &[Work]) {
         }),
     );
     row("adding to a graph by value", stack::peak(|| graph::add_by_value(510)));
-    #[cfg(host)]
     row(
         "keys and pops on a lent machine, with its opening",
         stack::peak(|| {

@@ -71,8 +71,7 @@ pub fn check_calls(map: &[u8]) {
     }
 }
 
-/// Calls on one machine that is lent: `--cfg host` says that the archive of the crate `host` is there.
-#[cfg(host)]
+/// Calls on one machine that is lent.
 pub mod lent {
     use super::*;
 

@@ -2,8 +2,8 @@
 use Prim.Native.Nat.{_≤_, _-_}
 use lib.ListN.{length}
 use borrow.Author.Needs.{needs}
-use Rattle.bench.proofs.keys.mix_queue.Statement.{statement}
-use Rattle.bench.proofs.keys.mix_queue.Tie as tie
+use Rattle.benchkeys.proofs.mix_queue.Statement.{statement}
+use Rattle.benchkeys.proofs.mix_queue.Tie as tie
 
 abbrev Inv-loop : tie.InvT-loop
 Inv-loop queue queued start sum₀ i₀ sum i = i ≤ length queue

@@ -4,8 +4,8 @@ use mathlib.Core.Path.{_≡_}
 use lib.ListN.{length}
 use native.Mathlib.Omega.{arith}
 use borrow.Author.Needs.{needs}
-use Rattle.bench.proofs.keys.keys_over.Statement.{statement}
-use Rattle.bench.proofs.keys.keys_over.Tie as tie
+use Rattle.benchkeys.proofs.keys_over.Statement.{statement}
+use Rattle.benchkeys.proofs.keys_over.Tie as tie
 
 abbrev Inv-loop : tie.InvT-loop
 Inv-loop keys words counts links classes modes rules sizes budget queue₀ sequences₀ trail₀ state₀ trailed₀ sum₀ i₀ queue sequences trail state trailed sum i =
