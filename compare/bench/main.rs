@@ -192,6 +192,17 @@ fn call_rows(works: &[Work]) {
     each_call_rows(works);
 }
 
+/// Nanoseconds in which no machine can be copied: it has some 40,000 bytes. What takes less was put into the loop by the
+/// compiler, and its copies left out, so it says nothing of a call.
+const NO_COPY: f64 = 200.0;
+
+fn call_verdict(times: [Times; 2]) -> &'static str {
+    if times.iter().any(|t| t.best < NO_COPY) {
+        return "not shown: no copy of the machine is left";
+    }
+    target(times.iter().all(|t| t.best <= 10e3))
+}
+
 /// Microseconds of each call by value, at the fewest and the most bindings.
 fn each_call_rows(works: &[Work]) {
     let ends = [&works[0], &works[works.len() - 1]];
@@ -212,8 +223,7 @@ fn each_call_rows(works: &[Work]) {
             let [calls, reading] = compare([&mut || turn(CALL_TIMES), &mut || turn(0)]);
             calls.less(reading).each(CALL_TIMES as usize)
         });
-        let met = times.iter().all(|t| t.best <= 10e3);
-        println!("| {what} | {} | {} | {} |", hundredths(times[0]), hundredths(times[1]), target(met));
+        println!("| {what} | {} | {} | {} |", hundredths(times[0]), hundredths(times[1]), call_verdict(times));
     }
 }
 
