@@ -213,11 +213,11 @@ fn each_call_rows(works: &[Work]) {
         BINDINGS[BINDINGS.len() - 1]
     );
     println!("|---|---|---|---|");
-    for (which, what) in ours::CALLS.iter().enumerate() {
+    for (what, call) in ours::CALLS {
         let times = ends.map(|work| {
             let turn = |times: u16| {
                 clock(|| {
-                    black_box(ours::call(&work.bytes, which, black_box(times)));
+                    black_box(ours::call(call, &work.bytes, black_box(times)));
                 })
             };
             let [calls, reading] = compare([&mut || turn(CALL_TIMES), &mut || turn(0)]);

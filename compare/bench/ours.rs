@@ -8,7 +8,13 @@ extern "C" {
     fn bench_keys_in_place(map: *const u8, map_count: usize, keys: *const u16, keys_count: usize, budget: u16) -> u64;
     fn bench_keys_by_value(map: *const u8, map_count: usize, keys: *const u16, keys_count: usize, budget: u16) -> u64;
     fn bench_other_calls(map: *const u8, map_count: usize) -> u32;
-    fn bench_call(map: *const u8, map_count: usize, which: u16, times: u16) -> u64;
+    fn bench_opens(times: u16) -> u64;
+    fn bench_mappings(map: *const u8, map_count: usize, times: u16) -> u64;
+    fn bench_prefixes(map: *const u8, map_count: usize, times: u16) -> u64;
+    fn bench_inputs(map: *const u8, map_count: usize, times: u16) -> u64;
+    fn bench_repeats(map: *const u8, map_count: usize, times: u16) -> u64;
+    fn bench_resets(map: *const u8, map_count: usize, times: u16) -> u64;
+    fn bench_finds(map: *const u8, map_count: usize, times: u16) -> u64;
 }
 
 /// The run's result; its pairs stand in the output.
@@ -43,32 +49,33 @@ pub fn other_calls(map: &[u8]) -> (u16, u16) {
     (answer as u16, (answer >> 16) as u16)
 }
 
-/// The calls by value, in the order of `bench_call`'s numbers.
-pub const CALLS: [&str; 10] = [
-    "open, with 16 modes and 64 rules",
-    "add_mapping, two new keys",
-    "add_prefix, two new keys, with a step",
-    "input_key",
-    "pop, 256 pairs waiting",
-    "repeat, 64 pairs remembered",
-    "reset_mode",
-    "mode",
-    "find, mostly of an action that no step has",
-    "free_nodes",
-];
+/// A call by value, so many times, on the machine of a map. The answer depends on what each call gave.
+pub type Call = unsafe extern "C" fn(*const u8, usize, u16) -> u64;
 
-/// The call of a number, so many times, on the machine of a map. The answer depends on what each call gave.
-pub fn call(map: &[u8], which: usize, times: u16) -> u64 {
-    unsafe { bench_call(map.as_ptr(), map.len(), which as u16, times) }
+unsafe extern "C" fn opens(_: *const u8, _: usize, times: u16) -> u64 {
+    bench_opens(times)
 }
 
-/// What one call leaves shows that it was not refused: a binding more has two nodes, and other calls leave so many pairs.
+pub const CALLS: [(&str, Call); 7] = [
+    ("open, with 16 modes and 64 rules", opens),
+    ("add_mapping, two keys", bench_mappings),
+    ("add_prefix, two keys", bench_prefixes),
+    ("input_key", bench_inputs),
+    ("repeat, 64 pairs remembered", bench_repeats),
+    ("reset_mode", bench_resets),
+    ("find, mostly of an action that no step has", bench_finds),
+];
+
+pub fn call(call: Call, map: &[u8], times: u16) -> u64 {
+    unsafe { call(map.as_ptr(), map.len(), times) }
+}
+
+/// What one call leaves shows that it was not refused: a key and a repeat leave so many pairs, and a mapping of two keys makes
+/// a node more than a prefix of two.
 pub fn check_calls(map: &[u8]) {
-    const RESET: usize = 6;
-    const A_NODE: u64 = 31;
-    for (which, more) in [(1, 2 * A_NODE), (2, 2 * A_NODE), (3, 1), (4, 255), (5, 64)] {
-        assert_eq!(call(map, which, 1), call(map, RESET, 1) + more, "{}", CALLS[which]);
-    }
+    assert_eq!(call(bench_inputs, map, 1), 1);
+    assert_eq!(call(bench_repeats, map, 1), 64);
+    assert_eq!(call(bench_mappings, map, 1), call(bench_prefixes, map, 1) + 1);
 }
 
 /// Calls on one machine that is lent.

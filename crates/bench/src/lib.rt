@@ -1,5 +1,5 @@
 // What the benchmark measures, in a form that C and Rust can call. Nothing of the product uses this crate.
-pub mod keys;
+pub mod calls;
 
 use keygraph::event::EdgeEvent;
 use keygraph::event::EdgeRepeat;

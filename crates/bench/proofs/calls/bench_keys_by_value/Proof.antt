@@ -2,8 +2,8 @@
 use Prim.Native.Nat.{_≤_, _-_}
 use lib.ListN.{length}
 use borrow.Author.Needs.{needs}
-use Rattle.bench.proofs.keys.bench_keys_by_value.Statement.{statement}
-use Rattle.bench.proofs.keys.bench_keys_by_value.Tie as tie
+use Rattle.bench.proofs.calls.bench_keys_by_value.Statement.{statement}
+use Rattle.bench.proofs.calls.bench_keys_by_value.Tie as tie
 
 abbrev Inv-loop2 : tie.InvT-loop2
 Inv-loop2 bytes keys budget m₀ sum₀ i left₀ m sum left = left ≤ 257

@@ -95,83 +95,118 @@ fn stir(sum: u64, word: u16) -> u64 {
     sum % 4294967296 * 31 + (word as u64)
 }
 
-// One call by value, `times` times, for its time, each on the machine that the one before handed back. What would make a
-// later call do less is put back before it: a binding is new each time, the queue is empty before a key and full before a
-// pop, and a repeat fetches 64 pairs. No node has an action that find is asked for after the first 128 times. Any number
-// `which` over 8 is free_nodes.
+// A call by value so many times, for its time, each on the machine that the one before handed back. What would make a later
+// call do less is put back before it. Here a mapping of two keys, bound again and again.
 #[no_mangle]
-pub extern "C" fn bench_call(bytes: &[u8], which: u16, times: u16) -> u64 {
+pub extern "C" fn bench_mappings(bytes: &[u8], times: u16) -> u64 {
+    let mut m = machine_of(bytes);
+    let mut sum = 0u64;
+    let mut i = 0u16;
+    while i < times {
+        let r = m.add_mapping(1, crate::two_keys(1, 2), crate::one_action(i));
+        let next = r.machine;
+        m = next;
+        sum = stir(sum, m.graph.counts.nodes);
+        i = i + 1;
+    }
+    sum
+}
+
+// A prefix of two keys without a step, bound again and again.
+#[no_mangle]
+pub extern "C" fn bench_prefixes(bytes: &[u8], times: u16) -> u64 {
+    let mut m = machine_of(bytes);
+    let mut sum = 0u64;
+    let mut i = 0u16;
+    while i < times {
+        let r = m.add_prefix(1, crate::two_keys(1, 2), false, crate::one_action(i));
+        let next = r.machine;
+        m = next;
+        sum = stir(sum, m.graph.counts.nodes);
+        i = i + 1;
+    }
+    sum
+}
+
+// Keys, of which most have no binding, on an empty queue.
+#[no_mangle]
+pub extern "C" fn bench_inputs(bytes: &[u8], times: u16) -> u64 {
+    let mut m = machine_of(bytes);
+    let mut sum = 0u64;
+    let mut i = 0u16;
+    while i < times {
+        m.state.queued = 0;
+        let r = m.input_key(i, 1000);
+        let next = r.machine;
+        m = next;
+        sum = stir(sum, m.state.queued);
+        i = i + 1;
+    }
+    sum
+}
+
+// Repeats of 64 pairs, overridden, on an empty queue.
+#[no_mangle]
+pub extern "C" fn bench_repeats(bytes: &[u8], times: u16) -> u64 {
     let mut m = machine_of(bytes);
     m.sequences[0] = 128;
-    let counts = m.graph.counts;
+    let mut sum = 0u64;
+    let mut i = 0u16;
+    while i < times {
+        m.state.queued = 0;
+        let r = m.repeat(0, Override::By(Context { count: i, mark: 6 }));
+        let next = r.machine;
+        m = next;
+        sum = stir(sum, m.state.queued);
+        i = i + 1;
+    }
+    sum
+}
+
+// Resets.
+#[no_mangle]
+pub extern "C" fn bench_resets(bytes: &[u8], times: u16) -> u64 {
+    let mut m = machine_of(bytes);
+    let mut sum = 0u64;
+    let mut i = 0u16;
+    while i < times {
+        let r = m.reset_mode();
+        let next = r.machine;
+        m = next;
+        sum = stir(sum, m.state.queued);
+        i = i + 1;
+    }
+    sum
+}
+
+// Finds, mostly of an action that no step has.
+#[no_mangle]
+pub extern "C" fn bench_finds(bytes: &[u8], times: u16) -> u64 {
+    let mut m = machine_of(bytes);
+    let mut sum = 0u64;
+    let mut i = 0u16;
+    while i < times {
+        let found = m.find(0, i);
+        sum = stir(sum, node_of(found));
+        i = i + 1;
+    }
+    sum
+}
+
+// Openings with 16 modes, 64 rules and 0 to 16 classes.
+#[no_mangle]
+pub extern "C" fn bench_opens(times: u16) -> u64 {
     let mut tables = Tables::empty();
     tables.sizes.modes = 16;
     tables.sizes.rules = 64;
     let mut sum = 0u64;
     let mut i = 0u16;
     while i < times {
-        match which {
-            0 => {
-                let classes = i % 17;
-                tables.sizes.classes = classes;
-                let r = ModalMachine::open(tables);
-                let next = r.machine;
-                m = next;
-            }
-            1 => {
-                m.graph.counts.nodes = counts.nodes;
-                m.graph.counts.edges = counts.edges;
-                let r = m.add_mapping(1, crate::two_keys(i, 2), crate::one_action(3));
-                let next = r.machine;
-                m = next;
-            }
-            2 => {
-                m.graph.counts.nodes = counts.nodes;
-                m.graph.counts.edges = counts.edges;
-                let r = m.add_prefix(1, crate::two_keys(i, 2), true, crate::one_action(3));
-                let next = r.machine;
-                m = next;
-            }
-            3 => {
-                m.state.queued = 0;
-                let r = m.input_key(i, 1000);
-                let next = r.machine;
-                m = next;
-            }
-            4 => {
-                m.state.queued = 256;
-                let r = m.pop();
-                let next = r.machine;
-                m = next;
-            }
-            5 => {
-                m.state.queued = 0;
-                let r = m.repeat(0, Override::By(Context { count: i, mark: 6 }));
-                let next = r.machine;
-                m = next;
-            }
-            6 => {
-                let r = m.reset_mode();
-                let next = r.machine;
-                m = next;
-            }
-            7 => {
-                let mode = i % 16;
-                m.state.mode = mode;
-                sum = stir(sum, m.mode());
-            }
-            8 => {
-                let found = m.find(0, i);
-                sum = stir(sum, node_of(found));
-            }
-            _ => {
-                let nodes = i % 1024;
-                m.graph.counts.nodes = nodes;
-                sum = stir(sum, m.free_nodes());
-            }
-        }
-        sum = stir(sum, m.graph.counts.nodes);
-        sum = stir(sum, m.state.queued);
+        let classes = i % 17;
+        tables.sizes.classes = classes;
+        let r = ModalMachine::open(tables);
+        let m = r.machine;
+        sum = stir(sum, m.tables.sizes.classes);
         i = i + 1;
     }
     sum

@@ -1,0 +1,54 @@
+-- A call by value asks nothing; the times left fall.
+use Prim.Native.Nat.{_≤_, _-_}
+use borrow.Author.Needs.{needs}
+use Rattle.bench.proofs.calls.bench_finds.Statement.{statement}
+use Rattle.bench.proofs.calls.bench_finds.Tie as tie
+
+abbrev Inv-loop : tie.InvT-loop
+Inv-loop bytes times m sum₀ i₀ sum i = i ≤ times
+
+abbrev μ-loop : tie.MeasureT-loop
+μ-loop bytes times m sum₀ i₀ sum i = times - i
+
+machine-of-requires : tie.Need-machine-of-requires Inv-loop μ-loop
+machine-of-requires c κs = search needs
+
+loop-holds : tie.Need-loop-holds Inv-loop μ-loop
+loop-holds c = search needs
+
+find-requires : tie.Need-find-requires Inv-loop μ-loop
+find-requires c κs = search needs
+
+node-of-requires : tie.Need-node-of-requires Inv-loop μ-loop
+node-of-requires c κs = search needs
+
+stir-requires : tie.Need-stir-requires Inv-loop μ-loop
+stir-requires c κs = search needs
+
+add-i : tie.Need-add-i Inv-loop μ-loop
+add-i c = search needs
+
+loop-less : tie.Need-loop-less Inv-loop μ-loop
+loop-less c = search needs
+
+loop-again : tie.Need-loop-again Inv-loop μ-loop
+loop-again c = search needs
+
+returns : tie.Need-returns Inv-loop μ-loop
+returns c = search needs
+
+pub bench-finds-spec : {M : Type 1} → statement M
+bench-finds-spec =
+    tie.close
+    (tie.spec
+    Inv-loop
+    μ-loop
+    machine-of-requires
+    loop-holds
+    find-requires
+    node-of-requires
+    stir-requires
+    add-i
+    loop-less
+    loop-again
+    returns)
