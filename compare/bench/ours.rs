@@ -1,4 +1,4 @@
-//! Our side: the exported run, the crate `bench`, and the machine that is lent to each call where its archive is linked.
+//! Our side: the exported run, the crates `bench` and `benchkeys`, and the machine that is lent to each call.
 
 use crate::archive;
 use crate::inputs::{numbers, BUDGET};
@@ -56,6 +56,7 @@ unsafe extern "C" fn opens(_: *const u8, _: usize, times: u16) -> u64 {
     bench_opens(times)
 }
 
+/// The calls that are timed one by one.
 pub const CALLS: [(&str, Call); 7] = [
     ("open, with 16 modes and 64 rules", opens),
     ("add_mapping, two keys", bench_mappings),
