@@ -10,7 +10,7 @@ use mapfile::map::MapRead;
 ghost use mathlib.Core.Path.{_≡_};
 ghost use Rattle.rules.specs.Calls.{graphKind, call, Press, Pop, Reset};
 ghost use Rattle.keyparts.specs.View.{answerOf};
-ghost use Rattle.keymachine.specs.Views.{machineOf, pressOf, popOf};
+ghost use Rattle.keymachine.specs.View.{machineOf, pressOf, popOf};
 ghost use Rattle.mapfile.specs.View.{mapOf};
 ghost use Rattle.host.specs.Codes.{codeOf, coded, openMap};
 

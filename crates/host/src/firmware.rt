@@ -3,7 +3,7 @@ use crate::coded;
 use keymachine::machine::ModalMachine;
 ghost use mathlib.Core.Path.{_≡_};
 ghost use Rattle.rules.specs.Calls.{graphKind, call, Press, Pop, Reset};
-ghost use Rattle.keymachine.specs.Views.{machineOf};
+ghost use Rattle.keymachine.specs.View.{machineOf};
 ghost use Rattle.host.specs.Codes.{coded, openMap, machineBytes};
 
 // The bytes that C lends for a machine.

@@ -11,8 +11,8 @@ use keymachine::machine::Waiting;
 ghost use mathlib.Core.Path.{_≡_};
 ghost use Rattle.rules.specs.Calls.{graphKind, call, mode-call, Map, Prefix, Press, Pop, Repeats, Reset, FindFits, HintFits};
 ghost use Rattle.keyparts.specs.View.{wholePath, wholeStep, chosenOf, foundOf, answerOf};
-ghost use Rattle.keypairs.specs.Views.{overOf};
-ghost use Rattle.keymachine.specs.Views.{machineOf, pressOf, popOf};
+ghost use Rattle.keypairs.specs.View.{overOf};
+ghost use Rattle.keymachine.specs.View.{machineOf, pressOf, popOf};
 
 pub fn add_mapping(m: &mut ModalMachine, mode: u16, path: EdgePath, step: Step) -> Answer
     ensures { λ r. ⌜ (machineOf (now (m .exit)), answerOf r) ≡ call graphKind (machineOf (now (m .entry))) (Map mode (wholePath path) (wholeStep step)) ⌝ }

@@ -1,4 +1,3 @@
 -- Laws that belong to no one function.
-pub mod Places
 pub mod Binds
 pub mod Cursors

@@ -14,7 +14,7 @@ use Rattle.keyparts.specs.View.{edgeOf, nodesOf, graphBy, reached, followLinks,
 use Rattle.keyparts.proofs.Links.{reached-all}
 use Rattle.keygraph.specs.declared.graph.Counts.{Counts}
 use Rattle.keygraph.specs.View.{graphIn}
-use Rattle.keyloop.specs.Views.{linkNavigator}
+use Rattle.keyloop.specs.View.{linkNavigator}
 
 module _ (ws : List ℕ) (k : Counts) (ls : List ℕ) where
   pub links-lead : ((ns : List Node) (cs : List ClassEntry) (n key : ℕ) → followLinks cs (reached (edgeWords ws) (k .edges)) ls n key ≡ followEdge cs (graphBy ns (map edgeOf (reached (edgeWords ws) (k .edges)))) n key)

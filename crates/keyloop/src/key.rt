@@ -15,8 +15,8 @@ ghost use lib.ListN.{length, take, drop};
 ghost use Rattle.rules.specs.KeyLoop as key;
 ghost use Rattle.rules.specs.Calls.{graphNavigator};
 ghost use Rattle.keygraph.specs.View.{graphIn};
-ghost use Rattle.keypairs.specs.Views.{tablesOf, stateOf};
-ghost use Rattle.keyloop.specs.Views.{linkNavigator, keyOf};
+ghost use Rattle.keypairs.specs.View.{tablesOf, stateOf};
+ghost use Rattle.keyloop.specs.View.{linkNavigator, keyOf};
 
 // What a key came to. Refused, `refusal` and `rounds` are all that is promised of it and of the lent arrays.
 pub struct Handled {

@@ -16,7 +16,7 @@ ghost use Rattle.rules.specs.Graph as g;
 ghost use Rattle.rules.specs.Calls as c;
 ghost use Rattle.keyparts.specs.View.{nodeOf, stepOf, edgesOf, classesOf, graphBy, reached, followLinks, edgeWords};
 ghost use Rattle.keygraph.specs.View.{graphIn};
-ghost use Rattle.keyloop.specs.Views.{resultBy, Turns};
+ghost use Rattle.keyloop.specs.View.{resultBy, Turns};
 
 // The step of `RunStep` and `RetryAfter` stands beside the result, since an enum here holds no array.
 pub enum InputResult {

@@ -15,7 +15,7 @@ use Rattle.rules.specs.KeyLoop.{Tracker, State, at, withQueue, KeyResult, Input
 use Rattle.rules.specs.KeyLoop as key
 use Rattle.rules.specs.Calls.{Machine, Answer, Accepted, Refused, Pressed, PressRefused, Popped, Nothing, withBindings, withState, withShared, fresh, open-with, settled, pressed, popped, map-call, prefix-call, key-call, reset-call, call, Open, Map, Prefix, Press, Pop, Reset, graphKind, graphNavigator}
 use Rattle.keygraph.specs.View as kg
-use Rattle.keypairs.specs.Views.{outcome, pairOf, pairsOf, broke, shared}
+use Rattle.keypairs.specs.View.{outcome, pairOf, pairsOf, broke, shared}
 use Rattle.keyloop.proofs.Lists.{drop-take, take-min}
 
 -- ---- open

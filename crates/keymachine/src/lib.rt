@@ -1,5 +1,5 @@
 // The modal machine by value: each call hands back the machine after it, with the answer. Every call is proved equal to the
-// rules' `call` on what the machine means, by the views of specs/Views.antt; find and hint to what the rules leave free.
+// rules' `call` on what the machine means, by the views of specs/View.antt; find and hint to what the rules leave free.
 //
 // The key loop, and what a machine keeps and is opened with, stand in the crates below and are handed on from here.
 pub mod machine;

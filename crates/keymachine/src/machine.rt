@@ -22,8 +22,8 @@ ghost use lib.Seq.{paste};
 ghost use Rattle.rules.specs.Tables.{noTables};
 ghost use Rattle.rules.specs.Calls.{graphKind, call, fresh, mode-call, Open, Map, Prefix, Press, Pop, Repeats, Reset, FindFits, HintFits};
 ghost use Rattle.keyparts.specs.View.{wholePath, wholeStep, chosenOf, foundOf, answerOf};
-ghost use Rattle.keypairs.specs.Views.{overOf, wholeTables};
-ghost use Rattle.keymachine.specs.Views.{machineOf, pressOf, popOf};
+ghost use Rattle.keypairs.specs.View.{overOf, wholeTables};
+ghost use Rattle.keymachine.specs.View.{machineOf, pressOf, popOf};
 
 // The map (graph and tables) and the live state. The queue, the sequences and the trail are words; `trailed` keys are on
 // the trail.

@@ -6,7 +6,7 @@ use native.Mathlib.Omega.{arith}
 use native.Mathlib.Numerals.{add-one}
 use lib.ListN.{length, take, drop, set, getD, length-take, length-drop, length-map, length-append}
 use lib.Seq.{drop-drop, getD-take, getD-drop, drop-cons, take-suc, take-set-le, take-set-lt, drop-set-lt, drop-set-add, getD-at, set-at, take-at, drop-at, length-take-le, take-add}
-use Rattle.keypairs.specs.Views.{outcome, blocks}
+use Rattle.keypairs.specs.View.{outcome, blocks}
 use Rattle.rules.specs.Basics.{accept, refuse}
 
 pub getD-mapped : {A B : Type 0} (f : A → B) (l : List A) (i : ℕ) (d : B) (z : A) → i < length l → getD (map f l) i d ≡ f (getD l i z)

@@ -17,7 +17,7 @@ use Rattle.rules.specs.KeyLoop.{Tracker, Shared, State, at, pushAll, giveAll, g
 use Rattle.rules.specs.Graph.{Graph}
 use Rattle.rules.specs.Calls.{graphNavigator}
 use Rattle.keyparts.specs.View.{fourOf, optOf}
-use Rattle.keypairs.specs.Views.{outcome, blocks, entryOf, modesOf, shared, giveGoto}
+use Rattle.keypairs.specs.View.{outcome, blocks, entryOf, modesOf, shared, giveGoto}
 use Rattle.keypairs.proofs.Lists.{length-blocks, blocks-word, getD-mapped}
 
 -- ---- entries

@@ -18,7 +18,7 @@ use Rattle.keyparts.proofs.Ranges.{take-map, fit-take, fit-length}
 use Rattle.keypairs.specs.declared.tables.ModeEntry as entry
 use Rattle.keypairs.specs.declared.tables.Tables as declared
 use Rattle.keypairs.specs.declared.rule.Rule as rule
-use Rattle.keypairs.specs.Views.{blocks, ruleOf, rulesOf, ruleBy, classBy, entryOf, modesOf, wholeActions, wholeEntry, wholeTables, tables, noClass, noRule}
+use Rattle.keypairs.specs.View.{blocks, ruleOf, rulesOf, ruleBy, classBy, entryOf, modesOf, wholeActions, wholeEntry, wholeTables, tables, noClass, noRule}
 use Rattle.keypairs.proofs.Lists.{getD-mapped, length-blocks, getD-blocks, blocks-set}
 
 -- ---- words

@@ -17,7 +17,7 @@ use Rattle.rules.specs.Tables as t
 use Rattle.rules.specs.Calls as c
 use Rattle.rules.specs.KeyLoop.{Tracker, tracker, noTracker, track, override, fetch, applyRule, applyRules}
 use Rattle.keyparts.proofs.Finds.{map-set}
-use Rattle.keypairs.specs.Views.{outcome, pairOf, pairsOf, trackerOf, trackersOf, fetchedAt, blocks, ruleOf, rulesOf, broke, settledBy}
+use Rattle.keypairs.specs.View.{outcome, pairOf, pairsOf, trackerOf, trackersOf, fetchedAt, blocks, ruleOf, rulesOf, broke, settledBy}
 use Rattle.keypairs.proofs.Lists.{map-more, map-at, map-long, length-blocks, getD-blocks, getD-mapped, blocks-part}
 
 pub packed : (a c m : ℕ) → a < 65536 → c < 65536 → m < 65536 → pairOf (a + c * 65536 + m * 4294967296) ≡ pair a c m

@@ -1,2 +1,2 @@
 -- What the code's words and types mean in the values of the rules.
-pub mod Views
+pub mod View

@@ -4,7 +4,7 @@ ghost use mathlib.Core.Path.{_≡_};
 ghost use Prim.Native.Nat.{_+_, _-_, _*_, _≤_, min};
 ghost use Rattle.rules.specs.Values as v;
 ghost use Rattle.keyparts.specs.View.{eventOf};
-ghost use Rattle.keypairs.specs.Views.{contextOf, chosenOf};
+ghost use Rattle.keypairs.specs.View.{contextOf, chosenOf};
 
 #[repr(C)]
 pub struct Context {

@@ -19,7 +19,7 @@ ghost use Rattle.rules.specs.KeyLoop as key;
 ghost use Rattle.rules.specs.Graph as g;
 ghost use Rattle.rules.specs.Calls.{graphNavigator};
 ghost use Rattle.keyparts.specs.View.{maybeOf, fourOf};
-ghost use Rattle.keypairs.specs.Views.{outcome, rulesOf, modesOf, entryBy, actionsBy, tables, sharedOf, stateOf, giveGoto};
+ghost use Rattle.keypairs.specs.View.{outcome, rulesOf, modesOf, entryBy, actionsBy, tables, sharedOf, stateOf, giveGoto};
 
 // The number of a refusal, or 0 and the state that was come to.
 pub struct Moved {

@@ -5,7 +5,7 @@ use keyparts::number;
 ghost use mathlib.Core.Path.{_≡_};
 ghost use Rattle.rules.specs.Values as v;
 ghost use Rattle.rules.specs.KeyLoop.{override};
-ghost use Rattle.keypairs.specs.Views.{pairBy, pairOf, overOf};
+ghost use Rattle.keypairs.specs.View.{pairBy, pairOf, overOf};
 
 pub struct Pair {
     pub action: u16,

@@ -11,7 +11,7 @@ ghost use lib.ListN.{length, getD};
 ghost use Rattle.rules.specs.Values as v;
 ghost use Rattle.rules.specs.Tables.{ClassEntry, ModeEntry};
 ghost use Rattle.rules.specs.KeyLoop as key;
-ghost use Rattle.keypairs.specs.Views.{outcome, actionsBy, contextOf, pairBy, pairsOf, trackersOf, rulesOf, tables, shared};
+ghost use Rattle.keypairs.specs.View.{outcome, actionsBy, contextOf, pairBy, pairsOf, trackersOf, rulesOf, tables, shared};
 
 // The number of a refusal, or 0 and how many pairs wait then.
 pub struct Pushed {

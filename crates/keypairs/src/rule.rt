@@ -9,7 +9,7 @@ ghost use Prim.Native.Nat.{_<_};
 ghost use lib.ListN.{length};
 ghost use Rattle.rules.specs.Tables.{matches, ruleValid};
 ghost use Rattle.rules.specs.KeyLoop.{applyRule, applyRules};
-ghost use Rattle.keypairs.specs.Views.{outcome, pairOf, trackersOf, ruleBy, ruleOf, rulesOf};
+ghost use Rattle.keypairs.specs.View.{outcome, pairOf, trackersOf, ruleBy, ruleOf, rulesOf};
 
 // The rule tells what the actions from `low` to `high` do to a sequence, in one mode.
 pub struct Rule {

@@ -19,7 +19,7 @@ ghost use Rattle.rules.specs.KeyLoop as key;
 ghost use Rattle.rules.specs.Graph as g;
 ghost use Rattle.rules.specs.Calls.{graphNavigator};
 ghost use Rattle.keyparts.specs.View.{maybeOf, stepOf, nodesOf, headWords, actWords, graphBy};
-ghost use Rattle.keypairs.specs.Views.{outcome, rulesOf, modesOf, tables, sharedOf, stateOf};
+ghost use Rattle.keypairs.specs.View.{outcome, rulesOf, modesOf, tables, sharedOf, stateOf};
 
 // The list of the node's mode is given, and its next mode entered; without one, the entered mode anew.
 pub fn unmapped<'a>(

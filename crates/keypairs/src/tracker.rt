@@ -11,7 +11,7 @@ ghost use lib.ListN.{length, set};
 ghost use Rattle.rules.specs.Tables as t;
 ghost use Rattle.rules.specs.KeyLoop as key;
 ghost use Rattle.keyparts.specs.View.{answerOf};
-ghost use Rattle.keypairs.specs.Views.{outcome, pairOf, pairBy, trackerOf, trackerBy, trackersOf, statusBy, broke, overOf, fetchedBy, fetchedAt, settledBy};
+ghost use Rattle.keypairs.specs.View.{outcome, pairOf, pairBy, trackerOf, trackerBy, trackersOf, statusBy, broke, overOf, fetchedBy, fetchedAt, settledBy};
 
 pub enum Status {
     Atom,

@@ -4,3 +4,4 @@ pub mod Finds
 pub mod Nodes
 pub mod Ranges
 pub mod Links
+pub mod Places

@@ -16,7 +16,7 @@ use Rattle.rules.specs.Basics.{if_then_else_}
 use Rattle.rules.specs.Values.{Event}
 use Rattle.rules.specs.Tables.{ClassEntry}
 use Rattle.rules.specs.Graph.{isEdge, endIn, getEdge, followFirst, followEdge, eventsOf, orElseBy, lastly, Node}
-use Rattle.keyparts.specs.View.{eventAt, codeOf, edgeOf, graphBy, find, keyIs, reached, chainOf, placeOn, linkedPlace, endAt, linkedEnd, linkAt, followLinks, Indexed}
+use Rattle.keyparts.specs.View.{eventAt, eventCode, edgeOf, graphBy, find, keyIs, reached, chainOf, placeOn, linkedPlace, endAt, linkedEnd, linkAt, followLinks, Indexed}
 use Rattle.rules.proofs.Tests.{and-l, and-r, by-cases, event-is}
 use Rattle.keyparts.proofs.Words.{code-event, edge-key}
 
@@ -304,12 +304,12 @@ module _ (ws : List ℕ) (w : ℕ) (ls : List ℕ) (room : length ws < 2048) (h 
 -- ---- what an index leads to
 
 -- an edge for the event has the event's key
-edge-has : (n : ℕ) (ev : Event) (w : ℕ) → isEdge n ev (edgeOf w) ≡ true → n + codeOf ev * 65536 ≡ w / 65536
+edge-has : (n : ℕ) (ev : Event) (w : ℕ) → isEdge n ev (edgeOf w) ≡ true → n + eventCode ev * 65536 ≡ w / 65536
 unfolding isEdge edgeOf
 edge-has n ev w h =
     let a = eqb-true (w / 65536 % 65536) n (and-l _ _ h) in
     let e = event-is (eventAt (w / 65536 / 65536)) ev (and-r (eqb (w / 65536 % 65536) n) _ h) in
-    let c : codeOf ev ≡ w / 65536 / 65536 = ap codeOf (sym e) ∙ code-event (w / 65536 / 65536) in
+    let c : eventCode ev ≡ w / 65536 / 65536 = ap eventCode (sym e) ∙ code-event (w / 65536 / 65536) in
     omega arith
 
 -- words with one key are edges for the same events
@@ -324,15 +324,15 @@ end-never n ev [] h = refl
 end-never n ev (w ∷ ws) h = rw (h w) (end-never n ev ws h)
 
 -- at the first word with the event's key stands the first edge for the event
-end-first : (n : ℕ) (ev : Event) (ws : List ℕ) → endAt ws n ev (find (keyIs (n + codeOf ev * 65536)) ws) ≡ endIn (map edgeOf ws) n ev
+end-first : (n : ℕ) (ev : Event) (ws : List ℕ) → endAt ws n ev (find (keyIs (n + eventCode ev * 65536)) ws) ≡ endIn (map edgeOf ws) n ev
 unfolding endAt endIn find keyIs
 end-first n ev [] = refl
 end-first n ev (x ∷ ws) =
-    by-cases (eqb (x / 65536) (n + codeOf ev * 65536))
+    by-cases (eqb (x / 65536) (n + eventCode ev * 65536))
     (λ e. rw (e, ltb-zero (length ws)) (first (isEdge n ev (edgeOf x)) refl (eqb-true _ _ e)))
     (λ e. rw e (later (isEdge n ev (edgeOf x)) refl (eqb-false _ _ e) (end-first n ev ws)))
   where
-    first : (b : Bool) → isEdge n ev (edgeOf x) ≡ b → x / 65536 ≡ n + codeOf ev * 65536
+    first : (b : Bool) → isEdge n ev (edgeOf x) ≡ b → x / 65536 ≡ n + eventCode ev * 65536
         → (if b then some (edgeOf x .to) else none) ≡ (if b then some (edgeOf x .to) else endIn (map edgeOf ws) n ev)
     first true f q = refl
     first false f q =
@@ -340,10 +340,10 @@ end-first n ev (x ∷ ws) =
         (λ t. sym (same-edge n ev x w (q ∙ edge-has n ev w t)) ∙ f)
         (λ t. t)))
 
-    later : (b : Bool) → isEdge n ev (edgeOf x) ≡ b → (x / 65536 ≡ n + codeOf ev * 65536 → ⊥) → endAt ws n ev (find (keyIs (n + codeOf ev * 65536)) ws) ≡ endIn (map edgeOf ws) n ev
-        → endAt (x ∷ ws) n ev (suc (find (keyIs (n + codeOf ev * 65536)) ws)) ≡ (if b then some (edgeOf x .to) else endIn (map edgeOf ws) n ev)
+    later : (b : Bool) → isEdge n ev (edgeOf x) ≡ b → (x / 65536 ≡ n + eventCode ev * 65536 → ⊥) → endAt ws n ev (find (keyIs (n + eventCode ev * 65536)) ws) ≡ endIn (map edgeOf ws) n ev
+        → endAt (x ∷ ws) n ev (suc (find (keyIs (n + eventCode ev * 65536)) ws)) ≡ (if b then some (edgeOf x .to) else endIn (map edgeOf ws) n ev)
     later true f d ih = absurd (d (sym (edge-has n ev x f)))
-    later false f d ih = rw (ltb-suc (find (keyIs (n + codeOf ev * 65536)) ws) (length ws)) ih
+    later false f d ih = rw (ltb-suc (find (keyIs (n + eventCode ev * 65536)) ws) (length ws)) ih
 
 module _ (ws ls : List ℕ) (short : length ws ≤ 2048) (h : Indexed ws ls) where
   pub indexed-place : (key : ℕ) → linkedPlace ws ls key ≡ find (keyIs key) ws
@@ -352,7 +352,7 @@ module _ (ws ls : List ℕ) (short : length ws ≤ 2048) (h : Indexed ws ls) whe
 
   pub indexed-end : (n : ℕ) (ev : Event) → linkedEnd ws ls n ev ≡ endIn (map edgeOf ws) n ev
   unfolding linkedEnd
-  indexed-end n ev = ap (endAt ws n ev) (indexed-place (n + codeOf ev * 65536)) ∙ end-first n ev ws
+  indexed-end n ev = ap (endAt ws n ev) (indexed-place (n + eventCode ev * 65536)) ∙ end-first n ev ws
 
   -- following by the links is following in the graph
   pub indexed-follow : (ns : List Node) (cs : List ClassEntry) (n k : ℕ) → followLinks cs ws ls n k ≡ followEdge cs (graphBy ns (map edgeOf ws)) n k

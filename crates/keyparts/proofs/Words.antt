@@ -14,16 +14,16 @@ use Rattle.rules.specs.Values.{Event, Key, Class, Any, Fallthrough, sameEvent, 
 use Rattle.rules.specs.Graph.{isEdge, Empty, Holds}
 use Rattle.rules.proofs.Tests.{and-l, and-r, both-ways, event-is, event-same}
 use native.Mathlib.Numerals.{add-one}
-use Rattle.keyparts.specs.View.{codeOf, eventAt, edgeOf, keyIs, optOf, fourOf, stepAt, actionAt, nodeAt, classAt}
+use Rattle.keyparts.specs.View.{eventCode, eventAt, edgeOf, keyIs, optOf, fourOf, stepAt, actionAt, nodeAt, classAt}
 
 -- ---- events
 
-pub code-event : (c : ℕ) → codeOf (eventAt c) ≡ c
-unfolding codeOf eventAt
+pub code-event : (c : ℕ) → eventCode (eventAt c) ≡ c
+unfolding eventCode eventAt
 code-event c = go (ltb c 65536) (ltb c 131072) (eqb c 131072) (eqb c 131073) refl refl refl refl
   where
     go : (p q r s : Bool) → ltb c 65536 ≡ p → ltb c 131072 ≡ q → eqb c 131072 ≡ r → eqb c 131073 ≡ s
-        → codeOf (if p then Key c else (if q then Class (c - 65536) else (if r then Any else (if s then Fallthrough else Key c)))) ≡ c
+        → eventCode (if p then Key c else (if q then Class (c - 65536) else (if r then Any else (if s then Fallthrough else Key c)))) ≡ c
     go true q r s ep eq er es = refl
     go false true r s ep eq er es = omega (arith, ltb-false c 65536 ep)
     go false false true s ep eq er es = sym (eqb-true c 131072 er)
@@ -53,7 +53,7 @@ event-fall = refl
 pub same-code : (a b : ℕ) → sameEvent (eventAt a) (eventAt b) ≡ eqb a b
 same-code a b =
     both-ways _ _
-    (λ h. eq-eqb a b (sym (code-event a) ∙ ap codeOf (event-is (eventAt a) (eventAt b) h) ∙ code-event b))
+    (λ h. eq-eqb a b (sym (code-event a) ∙ ap eventCode (event-is (eventAt a) (eventAt b) h) ∙ code-event b))
     (λ h. let e = eqb-true a b h in rw e (event-same (eventAt b)))
 
 -- ---- edges: the test on records is one test of the word

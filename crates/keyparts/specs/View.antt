@@ -25,7 +25,10 @@ use Rattle.keyparts.specs.declared.path.EdgePath.{EdgePath}
 use Rattle.keyparts.specs.declared.node.NodeAction.{NodeAction}
 use Rattle.keyparts.specs.declared.node.NodeAction.the-variants.{Empty, Root, Step as Holds}
 use Rattle.keyparts.specs.declared.node.Node.{Node}
-use Rattle.keyparts.specs.declared.node.Packed.{Packed}
+use Rattle.keyparts.specs.declared.node.NodeWords.{NodeWords}
+use Rattle.keyparts.specs.declared.graph.Counts.{Counts}
+use Rattle.keyparts.specs.declared.graph.Graph.{Graph}
+use Rattle.keyparts.specs.declared.tables.Sizes.{Sizes}
 use Rattle.keyparts.specs.declared.follow.FollowResult.{FollowResult}
 use Rattle.keyparts.specs.declared.follow.FollowResult.the-variants.{Successor, Fallthrough as Falls, NoSuccessor}
 use Rattle.keyparts.specs.declared.find.Found.{Found}
@@ -88,6 +91,16 @@ foundOf NothingFound = accept none
 abbrev pub answerOf : Answer → calls.Answer
 answerOf Accepted = calls.Accepted
 answerOf (Refused n) = calls.Refused n
+
+-- a value with the number of a refusal, or 0
+unfoldable pub outcome : {A : Type 0} → ℕ → A → Result A
+outcome zero a = accept a
+outcome (suc n) a = refuse (suc n)
+
+-- what a call leaves and answers: refused, what was there before
+unfoldable pub settled : {A : Type 0} → A → Result A → A × calls.Answer
+settled old (accept new) = (new, calls.Accepted)
+settled old (refuse n) = (old, calls.Refused n)
 
 -- a value with an answer: a refusal carries no value
 abbrev pub resultBy : {A : Type 0} → Answer → A → Result A
@@ -164,8 +177,8 @@ actionAt k s = if eqb k 0 then g.Empty else (if eqb k 1 then g.Root else g.Holds
 unfoldable pub nodeAt : ℕ → ℕ → g.Node
 nodeAt h w = record { mode = h % 128; action = actionAt (h / 128 % 4) (stepAt (h / 128 / 4) w) }
 
-abbrev pub packedOf : Packed → g.Node
-packedOf p = nodeAt (p .head) (p .acts)
+abbrev pub nodeIn : NodeWords → g.Node
+nodeIn p = nodeAt (p .head) (p .acts)
 
 unfoldable pub classAt : ℕ → ClassEntry
 classAt w = record { class = w % 65536; low = w / 65536 % 65536; high = w / 65536 / 65536 % 65536 }
@@ -200,6 +213,40 @@ headWords ws = take 1040 (drop 2048 ws)
 unfoldable pub actWords : List ℕ → List ℕ
 actWords ws = take 1040 (drop 3088 ws)
 
+-- the graph in heads, acts and edges
+abbrev pub graphFrom : List ℕ → List ℕ → List ℕ → Counts → g.Graph
+graphFrom hs ws es k = graphBy (nodesOf hs ws (k .nodes)) (edgesOf es (k .edges))
+
+abbrev pub graphIn : List ℕ → Counts → g.Graph
+graphIn ws k = graphFrom (headWords ws) (actWords ws) (edgeWords ws) k
+
+abbrev pub graphOf : Graph → g.Graph
+graphOf x = graphIn (x .words) (x .counts)
+
+-- the graph in words of which that of one edge, or those of one node, are replaced
+abbrev pub withEdge : List ℕ → ℕ → ℕ → Counts → g.Graph
+withEdge ws i w k = graphFrom (headWords ws) (actWords ws) (set (edgeWords ws) i w) k
+
+abbrev pub withNode : List ℕ → ℕ → NodeWords → Counts → g.Graph
+withNode ws n p k = graphFrom (set (headWords ws) n (p .head)) (set (actWords ws) n (p .acts)) (edgeWords ws) k
+
+-- ---- the tables' words: how many classes, modes and rules count; the classes', the modes', the rules'
+
+unfoldable pub sizesIn : List ℕ → Sizes
+sizesIn ws = record { classes = getD ws 0 0 % 65536; modes = getD ws 1 0 % 65536; rules = getD ws 2 0 % 65536 }
+
+unfoldable pub classWords : List ℕ → List ℕ
+classWords ws = take 16 (drop 3 ws)
+
+unfoldable pub modeWords : List ℕ → List ℕ
+modeWords ws = take 48 (drop 19 ws)
+
+unfoldable pub ruleWords : List ℕ → List ℕ
+ruleWords ws = take 64 (drop 67 ws)
+
+abbrev pub classesIn : List ℕ → List ClassEntry
+classesIn ws = classesOf (classWords ws) (sizesIn ws .classes)
+
 -- ---- searches
 
 unfoldable pub find : {A : Type 0} → (A → Bool) → List A → ℕ
@@ -211,11 +258,11 @@ keyIs key w = eqb (w / 65536) key
 
 -- ---- an index of the edges: a link from each edge to the next of its chain, and then to the first edge of each chain
 
-unfoldable pub codeOf : v.Event → ℕ
-codeOf (v.Key k) = k
-codeOf (v.Class c) = 65536 + c
-codeOf v.Any = 131072
-codeOf v.Fallthrough = 131073
+unfoldable pub eventCode : v.Event → ℕ
+eventCode (v.Key k) = k
+eventCode (v.Class c) = 65536 + c
+eventCode v.Any = 131072
+eventCode v.Fallthrough = 131073
 
 -- the words that an index reaches
 abbrev pub reached : List ℕ → ℕ → List ℕ
@@ -246,11 +293,15 @@ endAt ws n ev i =
 
 -- the end of n's edge for the event, as the links lead to it
 unfoldable pub linkedEnd : List ℕ → List ℕ → ℕ → v.Event → Option ℕ
-linkedEnd ws ls n ev = endAt ws n ev (linkedPlace ws ls (n + codeOf ev * 65536))
+linkedEnd ws ls n ev = endAt ws n ev (linkedPlace ws ls (n + eventCode ev * 65536))
 
 -- the links after the edge at place i went before the chain of its key; from 2,048 on there is no place for an edge
 unfoldable pub linkAt : List ℕ → ℕ → ℕ → List ℕ
 linkAt ls i key = if ltb i 2048 then set (set ls i (getD ls (chainOf key) 0)) (chainOf key) i else ls
+
+-- the links after an edge with the key went to place i, where there were n edges: behind the last it goes before its chain
+unfoldable pub linkMore : List ℕ → ℕ → ℕ → ℕ → List ℕ
+linkMore ls n i key = if ltb i n then ls else linkAt ls i key
 
 -- the links are those of an index of the words: they lead to the first word with a key in as many steps as there are words, and
 -- no link leads to a place where a further word may go

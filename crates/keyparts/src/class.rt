@@ -1,28 +1,10 @@
 // The class table: a word for each entry, which says of a class from which key to which it reaches.
 use crate::number;
 ghost use mathlib.Core.Path.{_≡_};
-ghost use mathlib.Core.List.{[]};
 ghost use Prim.Native.Nat.{_<_};
 ghost use lib.ListN.{length, getD};
 ghost use Rattle.rules.specs.Tables.{holdsKey};
-ghost use Rattle.keyparts.specs.View.{classAt, classesOf};
-
-// The first `count` words are the table.
-pub struct ClassTable {
-    pub words: [u64; 16],
-    pub count: u16,
-}
-
-impl ClassTable {
-    pub fn empty() -> ClassTable
-        ensures { λ r. ⌜ classesOf (r .words) (r .count) ≡ [] ⌝ }
-    {
-        ClassTable {
-            words: [0u64; 16],
-            count: 0,
-        }
-    }
-}
+ghost use Rattle.keyparts.specs.View.{classAt};
 
 // The word of an entry: the keys from `first` to `last`, both included.
 pub fn class_word(class: u16, first: u16, last: u16) -> u64

@@ -9,7 +9,7 @@ ghost use Rattle.keyparts.specs.View.{eventAt, edgesOf, graphBy, maybeOf
 
 // The place of the first of the first `count` words with this key in its upper 48 bits, or their number. Two words a turn:
 // this loop is most of what adding a binding costs.
-pub fn scan(edges: &[u64], count: u16, key: u64) -> usize
+pub(crate) fn scan(edges: &[u64], count: u16, key: u64) -> usize
     ensures { λ r. ⌜ r ≡ find (keyIs key) (take count (now (edges .entry))) ⌝ }
 {
     let n = number::least(count, edges.len());
@@ -32,7 +32,7 @@ pub fn scan(edges: &[u64], count: u16, key: u64) -> usize
 }
 
 // The end of the node's edge for the event of the code.
-pub fn get_edge(edges: &[u64], count: u16, node: u16, code: u32) -> Maybe
+pub(crate) fn get_edge(edges: &[u64], count: u16, node: u16, code: u32) -> Maybe
     ensures { λ r. ⌜ ((ns : List g.Node) → maybeOf r ≡ g.getEdge (graphBy ns (edgesOf (now (edges .entry)) count)) node (eventAt code)) ⌝ }
 {
     let n = number::least(count, edges.len());
@@ -44,7 +44,7 @@ pub fn get_edge(edges: &[u64], count: u16, node: u16, code: u32) -> Maybe
     Maybe::Nothing
 }
 
-pub fn has_edges(edges: &[u64], count: u16, node: u16) -> bool
+pub(crate) fn has_edges(edges: &[u64], count: u16, node: u16) -> bool
     ensures { λ r. ⌜ ((ns : List g.Node) → r ≡ g.hasEdges (graphBy ns (edgesOf (now (edges .entry)) count)) node) ⌝ }
 {
     let n = number::least(count, edges.len());

@@ -22,6 +22,8 @@ pub const ANY: u32 = 131072;
 pub const FALLTHROUGH: u32 = 131073;
 
 impl EdgeEvent {
+    pub const CLASSES: u16 = 256;
+
     pub fn code(self) -> u32
         ensures { λ r. ⌜ eventAt r ≡ eventOf self ⌝ }
     {
@@ -38,7 +40,7 @@ impl EdgeEvent {
     {
         match self {
             EdgeEvent::Key(_) => true,
-            EdgeEvent::Class(k) => k < 256,
+            EdgeEvent::Class(k) => k < EdgeEvent::CLASSES,
             EdgeEvent::Any => true,
             EdgeEvent::Fallthrough => true,
         }
@@ -46,13 +48,15 @@ impl EdgeEvent {
 }
 
 impl EdgeRepeat {
+    pub const MOST: u16 = 255;
+
     pub fn valid(self) -> bool
         ensures { λ r. ⌜ r ≡ v.repeatValid (repeatOf self) ⌝ }
     {
         match self {
             EdgeRepeat::Once => true,
-            EdgeRepeat::Min(n) => n <= 255,
-            EdgeRepeat::Max(n) => n <= 255,
+            EdgeRepeat::Min(n) => n <= EdgeRepeat::MOST,
+            EdgeRepeat::Max(n) => n <= EdgeRepeat::MOST,
         }
     }
 }

@@ -4,6 +4,7 @@ use crate::class;
 use crate::event;
 use crate::event::EdgeEvent;
 use crate::index;
+use crate::index::Index;
 use crate::number;
 use crate::step::Maybe;
 ghost use mathlib.Core.Path.{_≡_};
@@ -18,7 +19,7 @@ pub enum FollowResult {
 }
 
 // Any, and else Fallthrough.
-fn follow_rest<'a>(edges: &'a [u64], count: u16, links: &'a [u16; 2304], node: u16) -> FollowResult
+fn follow_rest<'a>(edges: &'a [u64], count: u16, links: &'a [u16; Index::LINKS], node: u16) -> FollowResult
     requires { ⌜ length (now links) ≡ 2304 ⌝ }
     ensures { λ r. ⌜ followOf r ≡ followMembers (linkedEnd (reached (now (edges .entry)) count) (now (links .entry)) node) 0 [] ⌝ }
 {
@@ -38,7 +39,7 @@ fn follow_rest<'a>(edges: &'a [u64], count: u16, links: &'a [u16; 2304], node: u
 fn member_end<'a>(
     edges: &'a [u64],
     count: u16,
-    links: &'a [u16; 2304],
+    links: &'a [u16; Index::LINKS],
     node: u16,
     key: u16,
     entry: u64,
@@ -58,7 +59,7 @@ fn member_end<'a>(
 fn follow_classes<'a>(
     edges: &'a [u64],
     count: u16,
-    links: &'a [u16; 2304],
+    links: &'a [u16; Index::LINKS],
     classes: &'a [u64],
     entries: u16,
     node: u16,
@@ -83,10 +84,10 @@ fn follow_classes<'a>(
 }
 
 // One round: the Key edge, the first membership with a Class edge, Any, then Fallthrough.
-pub fn follow_edge<'a>(
+pub(crate) fn follow_edge<'a>(
     edges: &'a [u64],
     count: u16,
-    links: &'a [u16; 2304],
+    links: &'a [u16; Index::LINKS],
     classes: &'a [u64],
     entries: u16,
     node: u16,

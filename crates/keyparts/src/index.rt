@@ -2,29 +2,30 @@
 // event without a search of all edges. Edges of one node and one event are on one of 256 chains. An edge has a link to the
 // next on its chain, and behind the 2,048 links of the edges stand the links to the first edge of each chain. Every value
 // of the links leads somewhere, and the search ends on all of them.
+use crate::graph::Graph;
 use crate::number;
 use crate::step::Maybe;
 ghost use mathlib.Core.Path.{_≡_};
-ghost use mathlib.Core.List.{List, map};
-ghost use Prim.Native.Nat.{ℕ};
 ghost use lib.ListN.{length};
-ghost use Rattle.rules.specs.Tables.{ClassEntry};
-ghost use Rattle.rules.specs.Graph as g;
-ghost use Rattle.keyparts.specs.View.{eventAt, edgeOf, graphBy, maybeOf, reached, linkedPlace, linkedEnd, linkAt, followLinks, Indexed};
+ghost use Rattle.keyparts.specs.View.{eventAt, maybeOf, reached, linkedPlace, linkedEnd, linkAt, Indexed};
 
 pub struct Index {
-    pub links: [u16; 2304],
+    pub links: [u16; Index::LINKS],
 }
 
 impl Index {
+    pub const CHAINS: u16 = 256;
+
+    // A link for each edge, and one for each chain.
+    pub const LINKS: usize = Graph::EDGES as usize + Index::CHAINS as usize;
+
     // Goes from the last edge to the first, so that each chain begins with its first edge. A link to place 2,048, where no
     // edge is, ends a chain.
-    pub fn new(edges: &[u64], count: u16) -> Index
-        ensures { λ r. ⌜ ((ns : List g.Node) (cs : List ClassEntry) (n k : ℕ) → followLinks cs (reached (now (edges .entry)) count) (r .links) n k ≡ g.followEdge cs (graphBy ns (map edgeOf (reached (now (edges .entry)) count))) n k) ⌝ }
+    pub(crate) fn new(edges: &[u64], count: u16) -> Index
         ensures { λ r. ⌜ Indexed (reached (now (edges .entry)) count) (r .links) ⌝ }
     {
-        let mut links = [2048u16; 2304];
-        let mut i = number::least(number::least_of(count, 2048), edges.len());
+        let mut links = [Graph::EDGES; Index::LINKS];
+        let mut i = number::least(number::least_of(count, Graph::EDGES as usize), edges.len());
         while 0 < i {
             i = i - 1;
             link(&mut links, i, edges[i] / 65536);
@@ -34,11 +35,11 @@ impl Index {
 }
 
 // The edge at this place goes before the chain of its key.
-pub fn link(links: &mut [u16; 2304], place: usize, key: u64)
+pub fn link(links: &mut [u16; Index::LINKS], place: usize, key: u64)
     requires { ⌜ length (now links) ≡ 2304 ⌝ }
     ensures { λ r. ⌜ now (links .exit) ≡ linkAt (now (links .entry)) place key ⌝ }
 {
-    if 2048 <= place {
+    if Graph::EDGES as usize <= place {
         return;
     }
     let chain = number::chain_of(key);
@@ -47,14 +48,14 @@ pub fn link(links: &mut [u16; 2304], place: usize, key: u64)
 }
 
 // The place of the edge with this key, or the number of edges. `left` ends the search on links that lead in a circle.
-pub fn linked_place<'a>(edges: &'a [u64], count: u16, links: &'a [u16; 2304], key: u64) -> usize
+pub(crate) fn linked_place<'a>(edges: &'a [u64], count: u16, links: &'a [u16; Index::LINKS], key: u64) -> usize
     requires { ⌜ length (now links) ≡ 2304 ⌝ }
     ensures { λ r. ⌜ r ≡ linkedPlace (reached (now (edges .entry)) count) (now (links .entry)) key ⌝ }
 {
-    let n = number::least(number::least_of(count, 2048), edges.len());
+    let n = number::least(number::least_of(count, Graph::EDGES as usize), edges.len());
     let all = &links[..];
     let mut at = all[number::chain_of(key)];
-    let mut left = 2048u16;
+    let mut left = Graph::EDGES;
     while 0 < left {
         let i = at as usize;
         if n <= i {
@@ -70,17 +71,17 @@ pub fn linked_place<'a>(edges: &'a [u64], count: u16, links: &'a [u16; 2304], ke
 }
 
 // The end of the node's edge for the event of the code.
-pub fn linked_edge<'a>(
+pub(crate) fn linked_edge<'a>(
     edges: &'a [u64],
     count: u16,
-    links: &'a [u16; 2304],
+    links: &'a [u16; Index::LINKS],
     node: u16,
     code: u32,
 ) -> Maybe
     requires { ⌜ length (now links) ≡ 2304 ⌝ }
     ensures { λ r. ⌜ maybeOf r ≡ linkedEnd (reached (now (edges .entry)) count) (now (links .entry)) node (eventAt code) ⌝ }
 {
-    let n = number::least(number::least_of(count, 2048), edges.len());
+    let n = number::least(number::least_of(count, Graph::EDGES as usize), edges.len());
     let key = number::key_of(node, code);
     let i = linked_place(edges, count, links, key);
     if i < n {

@@ -3,13 +3,14 @@ use crate::number;
 use crate::step::Maybe;
 use crate::step::Step;
 ghost use mathlib.Core.Path.{_≡_};
-ghost use mathlib.Core.List.{List, [], _∷_};
+ghost use mathlib.Core.List.{List};
 ghost use lib.Dec.{eqb};
 ghost use lib.ListN.{take, getD};
 ghost use Prim.Native.Nat.{_<_, _/_, _%_, min};
 ghost use Rattle.rules.specs.Values as v;
 ghost use Rattle.rules.specs.Graph as g;
-ghost use Rattle.keyparts.specs.View.{maybeOf, optOf, fourOf, stepOf, stepAt, actionOf, actionAt, nodeOf, nodesOf, graphBy, packedOf};
+ghost use Rattle.rules.specs.Calls.{holdsAction};
+ghost use Rattle.keyparts.specs.View.{maybeOf, optOf, fourOf, stepOf, stepAt, actionOf, actionAt, nodeOf, nodesOf, graphBy, nodeIn};
 
 // What a node does. The step of `Step` stands beside it in the node, since an enum here holds no array.
 pub enum NodeAction {
@@ -25,9 +26,27 @@ pub struct Node {
 }
 
 // A node's two words. Any two words are some node's.
-pub struct Packed {
+pub struct NodeWords {
     pub head: u64,
     pub acts: u64,
+}
+
+impl Node {
+    // Is the node of the mode, with a step that has the action?
+    pub fn holds_action(self, mode: u16, action: u16) -> bool
+        ensures { λ r. ⌜ r ≡ holdsAction mode action (nodeOf self) ⌝ }
+    {
+        let does = self.action;
+        let step = self.step;
+        if self.mode == mode {
+            match does {
+                NodeAction::Empty => return false,
+                NodeAction::Root => return false,
+                NodeAction::Step => return step.has(action),
+            }
+        }
+        false
+    }
 }
 
 // What may be missing, in a word: 0 for nothing, and else one more than the number.
@@ -59,42 +78,44 @@ fn bit(b: bool) -> u64
 fn four(n: u16) -> u64
     ensures { λ r. ⌜ (r ≡ min n 4) × (r < 8) ⌝ }
 {
-    if n < 4 { n as u64 } else { 4 }
+    if n < Step::ACTIONS {
+        n as u64
+    } else {
+        Step::ACTIONS as u64
+    }
 }
 
-impl Step {
-    // The words of a node that holds the step. A mode has seven bits there.
-    pub fn pack(self, mode: u16) -> Packed
-        ensures { λ r. ⌜ packedOf r ≡ record { mode = mode % 128; action = g.Holds (stepOf self) } ⌝ }
+impl NodeWords {
+    // The words of an empty node. A mode has seven bits there.
+    pub fn empty(mode: u16) -> NodeWords
+        ensures { λ r. ⌜ nodeIn r ≡ record { mode = mode % 128; action = g.Empty } ⌝ }
     {
-        let actions = self.actions;
+        let at = mode % 128;
+        NodeWords {
+            head: at as u64,
+            acts: 0,
+        }
+    }
+
+    // The words of a node that holds the step. A mode has seven bits there.
+    pub fn holding(step: Step, mode: u16) -> NodeWords
+        ensures { λ r. ⌜ nodeIn r ≡ record { mode = mode % 128; action = g.Holds (stepOf step) } ⌝ }
+    {
+        let actions = step.actions;
         let acts = number::four_word(actions);
-        let flag = bit(self.unmapped);
-        let count = four(self.count);
-        let nx = self.next;
-        let fl = self.fallthrough;
-        let mk = self.mark;
+        let flag = bit(step.unmapped);
+        let count = four(step.count);
+        let nx = step.next;
+        let fl = step.fallthrough;
+        let mk = step.mark;
         let next = opt(nx);
         let fall = opt(fl);
         let mark = opt(mk);
         let at = mode % 128;
         let step = flag + 2 * (count + 8 * (next + 131072 * (fall + 131072 * mark)));
-        Packed {
+        NodeWords {
             head: (at as u64) + 128 * (2 + 4 * step),
             acts: acts,
-        }
-    }
-}
-
-impl Packed {
-    // The words of an empty node. A mode has seven bits there.
-    pub fn empty(mode: u16) -> Packed
-        ensures { λ r. ⌜ packedOf r ≡ record { mode = mode % 128; action = g.Empty } ⌝ }
-    {
-        let at = mode % 128;
-        Packed {
-            head: at as u64,
-            acts: 0,
         }
     }
 
@@ -137,7 +158,7 @@ impl Packed {
 
     // The node that the words stand for.
     pub fn node(self) -> Node
-        ensures { λ r. ⌜ nodeOf r ≡ packedOf self ⌝ }
+        ensures { λ r. ⌜ nodeOf r ≡ nodeIn self ⌝ }
     {
         let action = self.action();
         let step = self.step();
@@ -169,26 +190,26 @@ pub fn head_at(heads: &[u64], count: u16, node: u16) -> u64
 }
 
 // The words of a node; those of an empty node of mode 0, where there is no such node.
-pub fn packed_at<'a>(heads: &'a [u64], acts: &'a [u64], count: u16, node: u16) -> Packed
-    ensures { λ r. ⌜ packedOf r ≡ getD (nodesOf (now (heads .entry)) (now (acts .entry)) count) node g.noNode ⌝ }
+pub fn words_at<'a>(heads: &'a [u64], acts: &'a [u64], count: u16, node: u16) -> NodeWords
+    ensures { λ r. ⌜ nodeIn r ≡ getD (nodesOf (now (heads .entry)) (now (acts .entry)) count) node g.noNode ⌝ }
 {
     let i = node as usize;
     let n = number::least(count, heads.len());
     let m = number::least(count, acts.len());
     if i < n {
         if i < m {
-            return Packed {
+            return NodeWords {
                 head: heads[i],
                 acts: acts[i],
             };
         }
     }
-    Packed { head: 0, acts: 0 }
+    NodeWords { head: 0, acts: 0 }
 }
 
 // The node at a number.
 pub fn node_at<'a>(heads: &'a [u64], acts: &'a [u64], count: u16, node: u16) -> Node
     ensures { λ r. ⌜ ((es : List g.Edge) → nodeOf r ≡ g.getNode (graphBy (nodesOf (now (heads .entry)) (now (acts .entry)) count) es) node) ⌝ }
 {
-    packed_at(heads, acts, count, node).node()
+    words_at(heads, acts, count, node).node()
 }

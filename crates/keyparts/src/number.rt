@@ -1,4 +1,6 @@
 // Small numbers: the least of two, the low 16 bits, the upper part of an edge's word, its chain, and four actions in a word.
+use crate::graph::Graph;
+use crate::step::Step;
 ghost use mathlib.Core.Path.{_≡_};
 ghost use mathlib.Core.List.{[], _∷_};
 ghost use Prim.Native.Nat.{_+_, _*_, _<_, _%_, min};
@@ -36,7 +38,7 @@ pub fn key_of(from: u16, code: u32) -> u64
 pub fn chain_of(key: u64) -> usize
     ensures { λ r. ⌜ (r ≡ chainOf key) × (r < 2304) ⌝ }
 {
-    2048 + (((key / 65536 % 256 + key % 256) % 256) as usize)
+    Graph::EDGES as usize + (((key / 65536 % 256 + key % 256) % 256) as usize)
 }
 
 fn four(a: u16, b: u16, c: u16, d: u16) -> u64
@@ -46,7 +48,7 @@ fn four(a: u16, b: u16, c: u16, d: u16) -> u64
 }
 
 // Four actions in a word, the first in the lowest bits.
-pub fn four_word(actions: [u16; 4]) -> u64
+pub fn four_word(actions: [u16; Step::ACTIONS as usize]) -> u64
     ensures { λ r. ⌜ fourOf r ≡ actions ⌝ }
 {
     four(actions[0], actions[1], actions[2], actions[3])

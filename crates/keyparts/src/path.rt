@@ -16,7 +16,7 @@ pub struct EdgePathPart {
 
 // The first `count` parts are the path. A count over 32 is a path that every call refuses.
 pub struct EdgePath {
-    pub parts: [EdgePathPart; 32],
+    pub parts: [EdgePathPart; EdgePath::PARTS as usize],
     pub count: u16,
 }
 
@@ -31,10 +31,12 @@ impl EdgePathPart {
 }
 
 impl EdgePath {
+    pub const PARTS: u16 = 32;
+
     pub fn size(self) -> usize
         ensures { λ r. ⌜ (r ≡ length (take (self .count) (self .parts))) × (r ≤ 32) ⌝ }
     {
-        number::least(self.count, 32)
+        number::least(self.count, EdgePath::PARTS as usize)
     }
 
     fn parts_valid(self) -> bool
@@ -56,7 +58,7 @@ impl EdgePath {
     pub fn valid(self) -> bool
         ensures { λ r. ⌜ r ≡ v.pathValid (wholePath self) ⌝ }
     {
-        if 32 < self.count {
+        if EdgePath::PARTS < self.count {
             return false;
         }
         self.parts_valid()

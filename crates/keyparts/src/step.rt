@@ -1,4 +1,5 @@
 // A step: what a node does when a path has led to it.
+use crate::graph::Graph;
 use crate::number;
 ghost use mathlib.Core.Path.{_≡_};
 ghost use lib.Dec.{eqb};
@@ -15,7 +16,7 @@ pub enum Maybe {
 // The first `count` actions are the step's. A count over 4 is a step that every call refuses.
 pub struct Step {
     pub unmapped: bool,
-    pub actions: [u16; 4],
+    pub actions: [u16; Step::ACTIONS as usize],
     pub count: u16,
     pub next: Maybe,
     pub fallthrough: Maybe,
@@ -28,7 +29,7 @@ pub fn mode_valid(m: Maybe) -> bool
 {
     match m {
         Maybe::Nothing => true,
-        Maybe::Just(n) => n < 16,
+        Maybe::Just(n) => n < Graph::ROOTS,
     }
 }
 
@@ -50,7 +51,7 @@ impl Step {
     {
         Step {
             unmapped: false,
-            actions: [0u16; 4],
+            actions: [0u16; Step::ACTIONS as usize],
             count: 0,
             next: Maybe::Nothing,
             fallthrough: Maybe::Nothing,
@@ -79,7 +80,7 @@ impl Step {
     pub fn has(self, action: u16) -> bool
         ensures { λ r. ⌜ r ≡ some-of (eqb action) (stepOf self .actions) ⌝ }
     {
-        let n = number::least(self.count, 4);
+        let n = number::least(self.count, Step::ACTIONS as usize);
         let mut i = 0usize;
         while i < n {
             if self.actions[i] == action {

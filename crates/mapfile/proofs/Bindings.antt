@@ -20,7 +20,7 @@ use Rattle.keyparts.specs.View.{resultBy}
 use Rattle.keyparts.specs.declared.answer.Answer.{Answer}
 use Rattle.keyparts.specs.declared.answer.Answer.the-variants.{Accepted, Refused}
 use Rattle.mapparts.specs.declared.cursor.Cursor.{Cursor}
-use Rattle.keypairs.specs.Views.{outcome}
+use Rattle.keypairs.specs.View.{outcome}
 use Rattle.mapparts.specs.View.{cursorOf, with, Reads}
 use Rattle.mapfile.specs.View.{Comes, machineBy}
 

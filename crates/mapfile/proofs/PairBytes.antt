@@ -12,7 +12,7 @@ use Rattle.rules.specs.Values.{Pair}
 use Rattle.rules.specs.Numbers.{bytesOf}
 use Rattle.rules.specs.Run.{pairBytes}
 use Rattle.rules.proofs.Numbers.{side}
-use Rattle.keypairs.specs.Views.{pairOf, pairsOf}
+use Rattle.keypairs.specs.View.{pairOf, pairsOf}
 use Rattle.mapfile.specs.View.{laid, bytesOfPair}
 use Rattle.mapfile.proofs.Writing.{laid-laid}
 

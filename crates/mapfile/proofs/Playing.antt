@@ -19,8 +19,8 @@ use Rattle.rules.specs.Calls.{graphKind, graphNavigator, fresh, key-call}
 use Rattle.rules.specs.Run.{readKeys, pairBytes, emptied, playKeys}
 use Rattle.keypairs.specs.declared.state.State.{State}
 use Rattle.keyloop.specs.declared.key.Handled.{Handled}
-use Rattle.keypairs.specs.Views.{outcome, pairsOf, stateOf, trackerOf, blocks}
-use Rattle.keyloop.specs.Views.{keyOf}
+use Rattle.keypairs.specs.View.{outcome, pairsOf, stateOf, trackerOf, blocks}
+use Rattle.keyloop.specs.View.{keyOf}
 use Rattle.mapfile.specs.declared.play.Ran.{Ran}
 use Rattle.mapfile.specs.declared.play.Ran.the-variants.{Wrote, Refused}
 use Rattle.mapfile.specs.View.{laid, machineBy, ranOf, Ends}

@@ -14,7 +14,7 @@ use Rattle.rules.specs.KeyLoop.{State}
 use Rattle.rules.specs.Calls.{Machine, graphKind, fresh}
 use Rattle.keyparts.specs.View.{resultBy}
 use Rattle.keygraph.specs.View.{graphIn}
-use Rattle.keypairs.specs.Views.{tablesOf}
+use Rattle.keypairs.specs.View.{tablesOf}
 use Rattle.mapfile.specs.declared.bind.Bound.{Bound}
 use Rattle.mapfile.specs.declared.map.MapRead.{MapRead}
 use Rattle.mapfile.specs.declared.play.Ran.{Ran}

@@ -6,7 +6,7 @@ ghost use mathlib.Core.Path.{_≡_};
 ghost use Prim.Native.Nat.{_+_, _≤_};
 ghost use lib.ListN.{length};
 ghost use Rattle.rules.specs.Run.{pairBytes};
-ghost use Rattle.keypairs.specs.Views.{pairOf, pairsOf};
+ghost use Rattle.keypairs.specs.View.{pairOf, pairsOf};
 ghost use Rattle.mapfile.specs.View.{laid, bytesOfPair};
 
 fn pair_size(word: u64) -> usize

@@ -19,8 +19,8 @@ ghost use Rattle.rules.specs.Basics.{accept};
 ghost use Rattle.rules.specs.Calls.{graphKind, graphNavigator, fresh};
 ghost use Rattle.rules.specs.Run.{readKeys, playKeys, run};
 ghost use Rattle.keygraph.specs.View.{graphIn};
-ghost use Rattle.keypairs.specs.Views.{tablesOf};
-ghost use Rattle.keyloop.specs.Views.{linkNavigator};
+ghost use Rattle.keypairs.specs.View.{tablesOf};
+ghost use Rattle.keyloop.specs.View.{linkNavigator};
 ghost use Rattle.mapfile.specs.View.{machineBy, Within, Ends};
 
 // How many bytes were written, or the number of the refusal.

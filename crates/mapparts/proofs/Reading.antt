@@ -11,7 +11,7 @@ use Rattle.rules.specs.Basics.{Result, accept, refuse, _>>=_, unless}
 use Rattle.rules.specs.Numbers.{number}
 use Rattle.rules.specs.MapFile.{Reader, thenRead, give, such, times}
 use Rattle.mapparts.specs.declared.cursor.Cursor.{Cursor}
-use Rattle.keypairs.specs.Views.{outcome}
+use Rattle.keypairs.specs.View.{outcome}
 use Rattle.mapparts.specs.View.{cursorOf, with, Reads}
 
 -- ---- one reader after another

@@ -11,7 +11,7 @@ use Rattle.rules.specs.Tables.{ModeEntry}
 use Rattle.rules.specs.MapFile.{Reader, give, upTo, optional, readOptionalMode}
 use Rattle.keyparts.specs.View.{fit, fourOf, optOf}
 use Rattle.keyparts.proofs.Ranges.{fit-take}
-use Rattle.keypairs.specs.Views.{ruleOf, entryOf, blocks}
+use Rattle.keypairs.specs.View.{ruleOf, entryOf, blocks}
 use Rattle.keypairs.proofs.Lists.{length-blocks}
 use Rattle.mapparts.specs.View.{Reads}
 use Rattle.mapparts.proofs.Reading.{Left, then, gives}

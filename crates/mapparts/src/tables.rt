@@ -11,7 +11,7 @@ ghost use Rattle.rules.specs.Values.{mostClasses, modeCount, mostRules};
 ghost use Rattle.rules.specs.Tables.{Rule};
 ghost use Rattle.rules.specs.MapFile.{listOf, readClass, readMode, readRule, readTables};
 ghost use Rattle.keyparts.specs.View.{fourOf, classAt, classesOf};
-ghost use Rattle.keypairs.specs.Views.{ruleOf, rulesOf, entryOf, modesOf, tablesOf};
+ghost use Rattle.keypairs.specs.View.{ruleOf, rulesOf, entryOf, modesOf, tablesOf};
 ghost use Rattle.mapparts.specs.View.{cursorOf, Reads};
 
 // The word of one class or of one rule.

@@ -1,5 +1,5 @@
 -- The machine is the method's, and the number is its answer's.
-use Rattle.keymachine.specs.Views.{machineOf, pressOf}
+use Rattle.keymachine.specs.View.{machineOf, pressOf}
 use Rattle.host.proofs.Numbers.{numbered}
 use borrow.Author.Needs.{needs}
 use Rattle.host.proofs.coded.input_key.Statement.{statement}

@@ -1,7 +1,7 @@
 -- The fresh machine under the tables and the graph that were read is the machine of the map.
 use Rattle.keygraph.specs.View.{graphIn}
-use Rattle.keypairs.specs.Views.{tablesOf}
-use Rattle.keymachine.specs.Views.{machineOf}
+use Rattle.keypairs.specs.View.{tablesOf}
+use Rattle.keymachine.specs.View.{machineOf}
 use Rattle.host.proofs.Numbers.{remade}
 use borrow.Author.Needs.{needs}
 use Rattle.host.proofs.coded.machine_of.Statement.{statement}

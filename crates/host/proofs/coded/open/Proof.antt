@@ -1,5 +1,5 @@
 -- A map that is refused leaves the machine, and one that is accepted is the machine.
-use Rattle.keymachine.specs.Views.{machineOf}
+use Rattle.keymachine.specs.View.{machineOf}
 use Rattle.mapfile.specs.View.{mapOf}
 use Rattle.host.proofs.Numbers.{refused, accepted}
 use borrow.Author.Needs.{needs}

@@ -1,5 +1,5 @@
 -- The machine is the method's, and the number is its answer's.
-use Rattle.keymachine.specs.Views.{machineOf, popOf}
+use Rattle.keymachine.specs.View.{machineOf, popOf}
 use Rattle.host.proofs.Numbers.{numbered}
 use borrow.Author.Needs.{needs}
 use Rattle.host.proofs.coded.pop.Statement.{statement}

@@ -1,6 +1,6 @@
 -- Each case of the answer has its own number.
 use mathlib.Core.Path.{sym, ap}
-use Rattle.keymachine.specs.Views.{pressOf}
+use Rattle.keymachine.specs.View.{pressOf}
 use Rattle.host.specs.Codes.{codeOf}
 use borrow.Author.Needs.{needs}
 use Rattle.host.proofs.coded.pressed_code.Statement.{statement}

@@ -1,6 +1,6 @@
 -- The machine is the method's, and the number is its answer's.
 use Rattle.keyparts.specs.View.{answerOf}
-use Rattle.keymachine.specs.Views.{machineOf}
+use Rattle.keymachine.specs.View.{machineOf}
 use Rattle.host.proofs.Numbers.{numbered}
 use borrow.Author.Needs.{needs}
 use Rattle.host.proofs.coded.reset_mode.Statement.{statement}

@@ -1,6 +1,6 @@
 -- Each case of the answer has its own number; three numbers below 2^16 and one bit fit 64 bits.
 use mathlib.Core.Path.{sym, ap}
-use Rattle.keymachine.specs.Views.{popOf}
+use Rattle.keymachine.specs.View.{popOf}
 use Rattle.host.specs.Codes.{codeOf}
 use borrow.Author.Needs.{needs}
 use Rattle.host.proofs.coded.waiting_code.Statement.{statement}

@@ -6,7 +6,7 @@ use Rattle.keymachine.specs.declared.machine.ModalMachine.{ModalMachine}
 use denote.Triple.Spec.{tripleOf}
 use denote.Triple.Table.{entered, cited}
 use contract.Running.{givenOf, tables, tablesOf}
-use Rattle.keymachine.specs.Views.{machineOf}
+use Rattle.keymachine.specs.View.{machineOf}
 use Rattle.host.specs.Codes.{coded, openMap}
 use Rattle.lending.proofs.WalkBytes.{Method, meets}
 use Rattle.host.proofs.Types.{coded as coded-struct}

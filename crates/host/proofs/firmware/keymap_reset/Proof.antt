@@ -6,7 +6,7 @@ use denote.Triple.Spec.{tripleOf}
 use denote.Triple.Table.{entered, cited}
 use contract.Running.{givenOf, tables, tablesOf}
 use Rattle.rules.specs.Calls.{graphKind, call, Reset}
-use Rattle.keymachine.specs.Views.{machineOf}
+use Rattle.keymachine.specs.View.{machineOf}
 use Rattle.host.specs.Codes.{coded}
 use Rattle.lending.proofs.Walk0.{Method, meets}
 use Rattle.host.proofs.Types.{coded as coded-struct}

@@ -10,7 +10,7 @@ use denote.Triple.Table.{entered, cited}
 use contract.Running.{givenOf, tables, tablesOf}
 use Rattle.rules.specs.Calls.{graphKind, call, Map}
 use Rattle.keyparts.specs.View.{wholePath, wholeStep, answerOf}
-use Rattle.keymachine.specs.Views.{machineOf}
+use Rattle.keymachine.specs.View.{machineOf}
 use Rattle.lending.proofs.Walk3.{Method, meets}
 use Rattle.host.proofs.Types.{settled, u16, path, step}
 use Rattle.keymachine.proofs.machine.ModalMachine.add_mapping.Symbol as method

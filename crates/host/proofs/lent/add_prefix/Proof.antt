@@ -11,7 +11,7 @@ use denote.Triple.Table.{entered, cited}
 use contract.Running.{givenOf, tables, tablesOf}
 use Rattle.rules.specs.Calls.{graphKind, call, Prefix}
 use Rattle.keyparts.specs.View.{wholePath, wholeStep, chosenOf, answerOf}
-use Rattle.keymachine.specs.Views.{machineOf}
+use Rattle.keymachine.specs.View.{machineOf}
 use Rattle.lending.proofs.Walk4.{Method, meets}
 use Rattle.host.proofs.Types.{settled, u16, path, bool, step}
 use Rattle.keymachine.proofs.machine.ModalMachine.add_prefix.Symbol as method

@@ -7,7 +7,7 @@ use denote.Triple.Table.{entered, cited}
 use contract.Running.{givenOf, tables, tablesOf}
 use Rattle.rules.specs.Calls.{FindFits}
 use Rattle.keyparts.specs.View.{foundOf}
-use Rattle.keymachine.specs.Views.{machineOf}
+use Rattle.keymachine.specs.View.{machineOf}
 use Rattle.keymachine.proofs.machine.ModalMachine.Laws.{the-field-copy}
 use Rattle.lending.proofs.Peek2.{Method, meets}
 use Rattle.host.proofs.Types.{machine, found, u16}

@@ -7,7 +7,7 @@ use denote.Triple.Spec.{tripleOf}
 use denote.Triple.Table.{entered, cited}
 use contract.Running.{givenOf, tables, tablesOf}
 use Rattle.rules.specs.Calls.{graphKind, call, Press}
-use Rattle.keymachine.specs.Views.{machineOf, pressOf}
+use Rattle.keymachine.specs.View.{machineOf, pressOf}
 use Rattle.lending.proofs.Walk2.{Method, meets}
 use Rattle.host.proofs.Types.{keyed, u16}
 use Rattle.keymachine.proofs.machine.ModalMachine.input_key.Symbol as method

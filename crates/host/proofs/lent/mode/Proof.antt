@@ -6,7 +6,7 @@ use denote.Triple.Spec.{tripleOf}
 use denote.Triple.Table.{entered, cited}
 use contract.Running.{givenOf, tables, tablesOf}
 use Rattle.rules.specs.Calls.{graphKind, mode-call}
-use Rattle.keymachine.specs.Views.{machineOf}
+use Rattle.keymachine.specs.View.{machineOf}
 use Rattle.keymachine.proofs.machine.ModalMachine.Laws.{the-field-copy}
 use Rattle.lending.proofs.Peek0.{Method, meets}
 use Rattle.host.proofs.Types.{machine, u16}

@@ -6,7 +6,7 @@ use denote.Triple.Spec.{tripleOf}
 use denote.Triple.Table.{entered, cited}
 use contract.Running.{givenOf, tables, tablesOf}
 use Rattle.rules.specs.Calls.{graphKind, call, Pop}
-use Rattle.keymachine.specs.Views.{machineOf, popOf}
+use Rattle.keymachine.specs.View.{machineOf, popOf}
 use Rattle.lending.proofs.Walk0.{Method, meets}
 use Rattle.host.proofs.Types.{popped}
 use Rattle.keymachine.proofs.machine.ModalMachine.pop.Symbol as method

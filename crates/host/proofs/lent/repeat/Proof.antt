@@ -9,8 +9,8 @@ use denote.Triple.Table.{entered, cited}
 use contract.Running.{givenOf, tables, tablesOf}
 use Rattle.rules.specs.Calls.{graphKind, call, Repeats}
 use Rattle.keyparts.specs.View.{answerOf}
-use Rattle.keypairs.specs.Views.{overOf}
-use Rattle.keymachine.specs.Views.{machineOf}
+use Rattle.keypairs.specs.View.{overOf}
+use Rattle.keymachine.specs.View.{machineOf}
 use Rattle.lending.proofs.Walk2.{Method, meets}
 use Rattle.host.proofs.Types.{settled, u16, over}
 use Rattle.keymachine.proofs.machine.ModalMachine.repeat.Symbol as method

@@ -7,7 +7,7 @@ use denote.Triple.Table.{entered, cited}
 use contract.Running.{givenOf, tables, tablesOf}
 use Rattle.rules.specs.Calls.{graphKind, call, Reset}
 use Rattle.keyparts.specs.View.{answerOf}
-use Rattle.keymachine.specs.Views.{machineOf}
+use Rattle.keymachine.specs.View.{machineOf}
 use Rattle.lending.proofs.Walk0.{Method, meets}
 use Rattle.host.proofs.Types.{settled}
 use Rattle.keymachine.proofs.machine.ModalMachine.reset_mode.Symbol as method

@@ -10,10 +10,10 @@ use Rattle.rules.specs.Basics.{Result}
 use Rattle.rules.specs.KeyLoop.{State, KeyResult, loop, inputKey}
 use Rattle.keyparts.specs.View.{stepOf, classesOf, edgesOf, edgeWords}
 use Rattle.keygraph.specs.View.{graphIn}
-use Rattle.keypairs.specs.Views.{tablesOf, stateOf}
+use Rattle.keypairs.specs.View.{tablesOf, stateOf}
 use Rattle.keypairs.proofs.Lists.{outcome-ok, outcome-no}
 use Rattle.keyloop.specs.declared.turn.InputResult.{InputResult}
-use Rattle.keyloop.specs.Views.{linkNavigator, resultBy}
+use Rattle.keyloop.specs.View.{linkNavigator, resultBy}
 use Rattle.keyloop.proofs.Lists.{take-min}
 use Rattle.keyloop.proofs.Stack.{weight, weight-most, drop-put}
 use Rattle.keyloop.proofs.Navigators.{step-same, unmapped-same}

@@ -2,8 +2,8 @@
 use mathlib.Core.Path.{_≡_, refl, sym, ap, _∙_}
 use Rattle.keyparts.specs.View.{nodeOf, eventOf, followOf, nodesOf, edgesOf, classesOf, reached, followLinks, edgeWords, headWords, actWords}
 use Rattle.keygraph.specs.View.{graphIn}
-use Rattle.keypairs.specs.Views.{sharedOf, contextOf}
-use Rattle.keyloop.specs.Views.{resultBy}
+use Rattle.keypairs.specs.View.{sharedOf, contextOf}
+use Rattle.keyloop.specs.View.{resultBy}
 use Rattle.keyloop.proofs.Rounds.{by-result, by-state, falls-result, falls-state, stuck-result, stuck-state}
 use borrow.Author.Needs.{needs}
 use Rattle.keyloop.proofs.turn.turn.Statement.{statement}

@@ -1,7 +1,7 @@
 -- The pushes stop at a refusal, and else the next mode is entered from what they left.
 use mathlib.Core.Path.{_≡_, refl, sym, ap, _∙_}
 use Rattle.keyparts.specs.View.{maybeOf}
-use Rattle.keypairs.specs.Views.{tables, modesOf, rulesOf, actionsBy, contextOf, pairsOf, trackersOf}
+use Rattle.keypairs.specs.View.{tables, modesOf, rulesOf, actionsBy, contextOf, pairsOf, trackersOf}
 use Rattle.keypairs.proofs.Lists.{outcome-ok, outcome-no}
 use Rattle.keypairs.proofs.Modes.{give-goto-stop, give-goto-on}
 use borrow.Author.Needs.{needs}

@@ -1,7 +1,7 @@
 -- One `take` gives the context of all the pushes of the enter list, and the place is the mode's root.
 use mathlib.Core.Path.{_≡_, refl, sym, ap, _∙_}
 use Rattle.rules.specs.Tables.{ModeEntry}
-use Rattle.keypairs.specs.Views.{tables, modesOf, rulesOf, entryBy, contextOf, pairsOf, trackersOf}
+use Rattle.keypairs.specs.View.{tables, modesOf, rulesOf, entryBy, contextOf, pairsOf, trackersOf}
 use Rattle.keypairs.proofs.Modes.{goto-is}
 use borrow.Author.Needs.{needs}
 use Rattle.keypairs.proofs.mode.goto_mode.Statement.{statement}

@@ -1,7 +1,7 @@
 -- Within the table the three words are the block of the mode; past it the entry is the default.
 use mathlib.Core.Path.{_≡_, refl, _∙_}
 use Rattle.rules.specs.Tables.{noEntry}
-use Rattle.keypairs.specs.Views.{entryBy}
+use Rattle.keypairs.specs.View.{entryBy}
 use Rattle.keypairs.proofs.Modes.{entry-in, entry-out}
 use borrow.Author.Needs.{needs}
 use Rattle.keypairs.proofs.mode.mode_entry.Statement.{statement}

@@ -1,7 +1,7 @@
 -- The rules come first and may refuse; then the pair goes behind the queue unless it is full.
 use mathlib.Core.Path.{_≡_, refl, sym, ap, _∙_}
 use lib.ListN.{length, length-set}
-use Rattle.keypairs.specs.Views.{trackersOf, rulesOf, tables, pairBy}
+use Rattle.keypairs.specs.View.{trackersOf, rulesOf, tables, pairBy}
 use Rattle.keypairs.proofs.Lists.{outcome-ok, outcome-no}
 use Rattle.keypairs.proofs.Pushes.{push-refused, push-room, push-full}
 use borrow.Author.Needs.{needs}

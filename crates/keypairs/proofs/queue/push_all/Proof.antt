@@ -8,7 +8,7 @@ use borrow.Author.Needs.{needs}
 use Rattle.rules.specs.Values.{Context}
 use Rattle.rules.specs.Tables.{ClassEntry, ModeEntry}
 use Rattle.rules.specs.KeyLoop.{pushAll}
-use Rattle.keypairs.specs.Views.{contextOf, actionsBy, pairsOf, trackersOf, rulesOf, tables, shared}
+use Rattle.keypairs.specs.View.{contextOf, actionsBy, pairsOf, trackersOf, rulesOf, tables, shared}
 use Rattle.keypairs.proofs.Lists.{outcome-ok, outcome-no}
 use Rattle.keypairs.proofs.Pushes.{all-on, all-stop, all-end}
 use Rattle.keypairs.proofs.queue.push_all.Statement.{statement}

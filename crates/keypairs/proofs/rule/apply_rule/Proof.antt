@@ -5,7 +5,7 @@ use lib.ListN.{length}
 use mathlib.Core.Path.{_≡_, refl, sym, ap, _∙_}
 use Rattle.rules.specs.Tables.{Rule, matches, statusOf}
 use Rattle.rules.specs.KeyLoop.{track}
-use Rattle.keypairs.specs.Views.{pairOf, trackersOf, trackerOf, ruleOf, ruleBy, statusBy}
+use Rattle.keypairs.specs.View.{pairOf, trackersOf, trackerOf, ruleOf, ruleBy, statusBy}
 use Rattle.keypairs.proofs.Sequences.{rule-in, rule-out, block, block-long}
 use borrow.Author.Needs.{needs}
 use Rattle.keypairs.proofs.rule.apply_rule.Statement.{statement}

@@ -6,7 +6,7 @@ use lib.ListN.{length, drop, getD}
 use borrow.Author.Needs.{needs}
 use Rattle.rules.specs.Tables.{Rule}
 use Rattle.rules.specs.KeyLoop.{applyRule, applyRules}
-use Rattle.keypairs.specs.Views.{pairOf, trackersOf, ruleOf, rulesOf}
+use Rattle.keypairs.specs.View.{pairOf, trackersOf, ruleOf, rulesOf}
 use Rattle.keypairs.proofs.Lists.{outcome-ok, outcome-no}
 use Rattle.keypairs.proofs.Sequences.{rules-on, rules-stop, rules-end, rules-word, rules-long}
 use Rattle.keypairs.proofs.rule.apply_rules.Statement.{statement}

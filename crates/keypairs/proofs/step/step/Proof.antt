@@ -2,7 +2,7 @@
 use lib.ListN.{length}
 use mathlib.Core.Path.{_≡_, refl, sym, ap, _∙_}
 use Rattle.keyparts.specs.View.{stepOf}
-use Rattle.keypairs.specs.Views.{tables, modesOf, rulesOf, stateOf}
+use Rattle.keypairs.specs.View.{tables, modesOf, rulesOf, stateOf}
 use Rattle.keypairs.proofs.Modes.{step-idle, step-goes}
 use borrow.Author.Needs.{needs}
 use Rattle.keypairs.proofs.step.step.Statement.{statement}

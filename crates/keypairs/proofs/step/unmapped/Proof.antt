@@ -3,7 +3,7 @@ use mathlib.Core.Path.{_≡_, refl, sym, ap, _∙_}
 use Rattle.rules.specs.Graph.{Node}
 use Rattle.rules.specs.Calls.{graphNavigator}
 use Rattle.keyparts.specs.View.{nodeOf, nodesOf, graphBy, headWords, actWords}
-use Rattle.keypairs.specs.Views.{tables, modesOf, rulesOf, entryBy, stateOf}
+use Rattle.keypairs.specs.View.{tables, modesOf, rulesOf, entryBy, stateOf}
 use Rattle.keypairs.proofs.Modes.{unmapped-is}
 use borrow.Author.Needs.{needs}
 use Rattle.keypairs.proofs.step.unmapped.Statement.{statement}

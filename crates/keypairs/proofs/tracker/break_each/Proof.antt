@@ -5,7 +5,7 @@ use mathlib.Core.List.{_++_, map}
 use native.Mathlib.Omega.{arith}
 use lib.ListN.{length, take, drop}
 use borrow.Author.Needs.{needs}
-use Rattle.keypairs.specs.Views.{trackersOf, broke}
+use Rattle.keypairs.specs.View.{trackersOf, broke}
 use Rattle.keypairs.proofs.Lists.{part-long}
 use Rattle.keypairs.proofs.Sequences.{block-long, break-on, break-end}
 use Rattle.keypairs.proofs.tracker.break_each.Statement.{statement}

@@ -5,7 +5,7 @@ use native.Mathlib.Omega.{arith}
 use lib.ListN.{length, length-set}
 use borrow.Author.Needs.{needs}
 use Rattle.rules.specs.KeyLoop.{override}
-use Rattle.keypairs.specs.Views.{trackerOf, overOf}
+use Rattle.keypairs.specs.View.{trackerOf, overOf}
 use Rattle.keypairs.proofs.Sequences.{fetchedTo, fetch-start, fetch-on, fetch-end, count-is}
 use Rattle.keypairs.proofs.tracker.fetch.Statement.{statement}
 use Rattle.keypairs.proofs.tracker.fetch.Tie as tie

@@ -3,7 +3,7 @@ use Prim.Native.Nat.{_<_, _+_, _-_, _*_}
 use mathlib.Core.Path.{_≡_, sym, _∙_}
 use native.Mathlib.Omega.{arith}
 use lib.ListN.{length, take, drop}
-use Rattle.keypairs.specs.Views.{overOf}
+use Rattle.keypairs.specs.View.{overOf}
 use Rattle.keypairs.proofs.Lists.{part-long}
 use Rattle.keypairs.proofs.Sequences.{block-long, fetched-out, fetched-in}
 use borrow.Author.Needs.{needs}

@@ -35,8 +35,8 @@ loop-holds c = (search needs, λ k h. absurd (omega arith))
 cast-k : tie.Need-cast-k Inv-loop μ-loop
 cast-k c = search needs
 
-packed-at-requires : tie.Need-packed-at-requires Inv-loop μ-loop
-packed-at-requires c κs = search needs
+words-at-requires : tie.Need-words-at-requires Inv-loop μ-loop
+words-at-requires c κs = search needs
 
 node-requires : tie.Need-node-requires Inv-loop μ-loop
 node-requires c κs = search needs
@@ -47,7 +47,7 @@ holds-action-requires c κs = search needs
 returns-2 : tie.Need-returns-2 Inv-loop μ-loop
 unfolding getNode
 returns-2 c = λ es. let a = c .before .before .before .before .before .before .before .before .before .before .before .args in let t = nodes-total (a .heads .now) (a .acts .now) (a .count) (c .before .before .before .before .before .before .least .result) (c .before .before .before .before .before .before .before .least-of .result) (c .before .before .before .before .before .before .before .least-of .ensures) (c .before .before .before .before .before .before .least .ensures) in
-    (c .before .before .before .before .before .before .before .before .if1 .left, omega arith, test-yes _ (sym (c .before .holds-action .ensures ∙ ap (holdsAction (a .mode) (a .action)) (c .before .before .node .ensures ∙ c .before .before .before .packed-at .ensures)) ∙ c .if2 .taken))
+    (c .before .before .before .before .before .before .before .before .if1 .left, omega arith, test-yes _ (sym (c .before .holds-action .ensures ∙ ap (holdsAction (a .mode) (a .action)) (c .before .before .node .ensures ∙ c .before .before .before .words-at .ensures)) ∙ c .if2 .taken))
 
 add-i : tie.Need-add-i Inv-loop μ-loop
 add-i c = search needs
@@ -58,7 +58,7 @@ loop-less c = search needs
 loop-again : tie.Need-loop-again Inv-loop μ-loop
 unfolding getNode
 loop-again c = let k = c .before .before .before .before .before in let a = c .before .before .before .before .before .before .before .before .before .before .before .args in
-    (search needs, below-more _ (k .loop .i) (k .loop .inv .1) (test-no _ (sym (c .before .holds-action .ensures ∙ ap (holdsAction (a .mode) (a .action)) (c .before .before .node .ensures ∙ c .before .before .before .packed-at .ensures)) ∙ c .if2 .left)))
+    (search needs, below-more _ (k .loop .i) (k .loop .inv .1) (test-no _ (sym (c .before .holds-action .ensures ∙ ap (holdsAction (a .mode) (a .action)) (c .before .before .node .ensures ∙ c .before .before .before .words-at .ensures)) ∙ c .if2 .left)))
 
 returns-3 : tie.Need-returns-3 Inv-loop μ-loop
 unfolding getNode
@@ -76,7 +76,7 @@ find-node-spec =
     least-requires
     loop-holds
     cast-k
-    packed-at-requires
+    words-at-requires
     node-requires
     holds-action-requires
     returns-2

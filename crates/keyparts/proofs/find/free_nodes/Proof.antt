@@ -4,6 +4,9 @@ use borrow.Author.Needs.{needs}
 use Rattle.keyparts.proofs.find.free_nodes.Statement.{statement}
 use Rattle.keyparts.proofs.find.free_nodes.Tie as tie
 
+cast-least-of : tie.Need-cast-least-of
+cast-least-of c = search needs
+
 least-of-requires : tie.Need-least-of-requires
 least-of-requires c κs = search needs
 
@@ -14,4 +17,8 @@ returns : tie.Need-returns
 returns c = λ hs ws es eh ew. hint-fits hs ws es (c .before .args .count) (c .least-of .result) eh ew (c .least-of .ensures)
 
 pub free-nodes-spec : {M : Type 1} → statement M
-free-nodes-spec = tie.close (tie.spec least-of-requires sub-result returns)
+free-nodes-spec = tie.close (tie.spec
+    cast-least-of
+    least-of-requires
+    sub-result
+    returns)

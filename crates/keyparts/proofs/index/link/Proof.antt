@@ -8,6 +8,9 @@ use borrow.Author.Needs.{needs}
 use Rattle.keyparts.proofs.index.link.Statement.{statement}
 use Rattle.keyparts.proofs.index.link.Tie as tie
 
+cast-if1 : tie.Need-cast-if1
+cast-if1 c = search needs
+
 returns : tie.Need-returns
 unfolding linkAt
 returns c = rw (le-ltb (c .before .args .place) 2048 (c .if1 .taken))
@@ -43,6 +46,7 @@ pub link-spec : {M : Type 1} → statement M
 link-spec =
     tie.close
     (tie.spec
+    cast-if1
     returns
     chain-of-requires
     mul-links

@@ -9,6 +9,9 @@ use borrow.Author.Needs.{needs}
 use Rattle.keyparts.proofs.index.linked_edge.Statement.{statement}
 use Rattle.keyparts.proofs.index.linked_edge.Tie as tie
 
+cast-least-of : tie.Need-cast-least-of
+cast-least-of c = search needs
+
 least-of-requires : tie.Need-least-of-requires
 least-of-requires c κs = search needs
 
@@ -44,6 +47,7 @@ pub linked-edge-spec : {M : Type 1} → statement M
 linked-edge-spec =
     tie.close
     (tie.spec
+    cast-least-of
     least-of-requires
     least-requires
     key-of-requires

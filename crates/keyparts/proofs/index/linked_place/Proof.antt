@@ -17,6 +17,9 @@ Inv-loop edges count links key n all at₀ left₀ at left = (at < 65536) × (li
 abbrev μ-loop : tie.MeasureT-loop
 μ-loop edges count links key n all at₀ left₀ at left = left
 
+cast-least-of : tie.Need-cast-least-of Inv-loop μ-loop
+cast-least-of c = search needs
+
 least-of-requires : tie.Need-least-of-requires Inv-loop μ-loop
 least-of-requires c κs = search needs
 
@@ -92,6 +95,7 @@ linked-place-spec =
     (tie.spec
     Inv-loop
     μ-loop
+    cast-least-of
     least-of-requires
     least-requires
     chain-of-requires

@@ -5,15 +5,15 @@ use borrow.Author.Needs.{needs}
 use Rattle.keyparts.proofs.node.node_at.Statement.{statement}
 use Rattle.keyparts.proofs.node.node_at.Tie as tie
 
-packed-at-requires : tie.Need-packed-at-requires
-packed-at-requires c κs = search needs
+words-at-requires : tie.Need-words-at-requires
+words-at-requires c κs = search needs
 
 node-requires : tie.Need-node-requires
 node-requires c κs = search needs
 
 returns : tie.Need-returns
 unfolding getNode
-returns c = λ es. c .node .ensures ∙ c .before .packed-at .ensures
+returns c = λ es. c .node .ensures ∙ c .before .words-at .ensures
 
 pub node-at-spec : {M : Type 1} → statement M
-node-at-spec = tie.close (tie.spec packed-at-requires node-requires returns)
+node-at-spec = tie.close (tie.spec words-at-requires node-requires returns)

@@ -6,6 +6,9 @@ use Rattle.keyparts.specs.View.{chainOf}
 use Rattle.keyparts.proofs.number.chain_of.Statement.{statement}
 use Rattle.keyparts.proofs.number.chain_of.Tie as tie
 
+cast-result : tie.Need-cast-result
+cast-result c = search needs
+
 add-result : tie.Need-add-result
 add-result c = search needs
 
@@ -17,4 +20,8 @@ unfolding chainOf
 returns c = (omega arith, omega arith)
 
 pub chain-of-spec : {M : Type 1} → statement M
-chain-of-spec = tie.close (tie.spec add-result add-result-2 returns)
+chain-of-spec = tie.close (tie.spec
+    cast-result
+    add-result
+    add-result-2
+    returns)

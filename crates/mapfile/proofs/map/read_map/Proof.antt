@@ -5,7 +5,7 @@ use Rattle.rules.specs.Tables.{Tables}
 use Rattle.rules.specs.Calls.{graphKind, fresh}
 use Rattle.rules.specs.MapFile.{readBindings, readMachine}
 use Rattle.keygraph.specs.View.{graphIn}
-use Rattle.keypairs.specs.Views.{tablesOf}
+use Rattle.keypairs.specs.View.{tablesOf}
 use Rattle.mapfile.proofs.Bindings.{comes-refused, comes-at, come-from, file, from-fresh, map-refused, map-ended}
 use borrow.Author.Needs.{needs}
 use Rattle.mapfile.proofs.map.read_map.Statement.{statement}

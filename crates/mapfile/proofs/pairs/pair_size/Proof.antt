@@ -1,5 +1,5 @@
 -- A pair's bytes are those of its three numbers.
-use Rattle.keypairs.specs.Views.{pairBy}
+use Rattle.keypairs.specs.View.{pairBy}
 use Rattle.mapfile.proofs.PairBytes.{pair-long}
 use native.Mathlib.Omega.{arith}
 use mathlib.Core.Path.{ap, _∙_}

@@ -1,7 +1,7 @@
 -- The loop keeps: the sum is the bytes of the pairs passed, at most nine a pair.
 use mathlib.Core.Path.{refl}
 use lib.ListN.{getD}
-use Rattle.keypairs.specs.Views.{pairOf}
+use Rattle.keypairs.specs.View.{pairOf}
 use Rattle.mapfile.specs.View.{bytesOfPair}
 use borrow.Author.Needs.{needs}
 use native.Mathlib.Omega.{arith}
@@ -10,7 +10,7 @@ use Prim.Native.Nat.{_*_, _-_, _≤_, min}
 use mathlib.Core.Path.{_≡_, ap, _∙_}
 use lib.ListN.{length, length-append}
 use Rattle.rules.specs.Run.{pairBytes}
-use Rattle.keypairs.specs.Views.{pairsOf}
+use Rattle.keypairs.specs.View.{pairsOf}
 use Rattle.mapfile.proofs.PairBytes.{pairs-next, all-pairs}
 use Rattle.mapfile.proofs.pairs.pairs_size.Statement.{statement}
 use Rattle.mapfile.proofs.pairs.pairs_size.Tie as tie

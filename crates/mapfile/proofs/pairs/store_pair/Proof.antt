@@ -4,7 +4,7 @@ use mathlib.Core.Path.{_≡_, ap, _∙_}
 use Prim.Native.Nat.{_+_, _≤_}
 use lib.ListN.{length}
 use Rattle.rules.specs.Numbers.{bytesOf}
-use Rattle.keypairs.specs.Views.{pairBy}
+use Rattle.keypairs.specs.View.{pairBy}
 use Rattle.mapfile.specs.View.{bytesOfPair, laid}
 use Rattle.mapfile.proofs.PairBytes.{first-fits, second-fits, third-fits, pair-end, pair-laid}
 use borrow.Author.Needs.{needs}

@@ -6,7 +6,7 @@ use Prim.Native.Nat.{_+_, _-_, _≤_, _<_, min}
 use mathlib.Core.Path.{_≡_, refl, ap, _∙_}
 use lib.ListN.{length}
 use Rattle.rules.specs.Run.{pairBytes}
-use Rattle.keypairs.specs.Views.{pairsOf}
+use Rattle.keypairs.specs.View.{pairsOf}
 use Rattle.mapfile.specs.View.{laid}
 use Rattle.mapfile.proofs.PairBytes.{one-fits, next-place, next-laid, all-pairs, none-at, none-laid}
 use Rattle.mapfile.proofs.pairs.store_pairs.Statement.{statement}

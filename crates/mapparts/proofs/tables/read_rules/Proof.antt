@@ -5,7 +5,7 @@ use mathlib.Core.Path.{_≡_, sym}
 use mathlib.Core.List.{map}
 use lib.ListN.{length, take, length-set}
 use Rattle.rules.specs.MapFile.{times, readRule}
-use Rattle.keypairs.specs.Views.{ruleOf}
+use Rattle.keypairs.specs.View.{ruleOf}
 use Rattle.mapparts.specs.View.{cursorOf}
 use Rattle.mapparts.proofs.Reading.{Left, left-all, left-none, then, as-made}
 use Rattle.mapparts.proofs.Parts.{stored}

@@ -1,7 +1,7 @@
 -- The graph answers as the rules' adding does, and all else of the machine stays.
 use Rattle.keyparts.specs.View.{wholePath, wholeStep, answerOf}
 use Rattle.keygraph.specs.View.{graphOf}
-use Rattle.keymachine.specs.Views.{machineOf}
+use Rattle.keymachine.specs.View.{machineOf}
 use Rattle.keymachine.proofs.Calls.{mapped}
 use borrow.Author.Needs.{needs}
 use Rattle.keymachine.proofs.machine.ModalMachine.add_mapping.Statement.{statement}

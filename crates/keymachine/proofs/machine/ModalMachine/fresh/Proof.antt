@@ -3,7 +3,7 @@ use mathlib.Core.Path.{_≡_, refl}
 use Rattle.rules.specs.Values.{noContext}
 use Rattle.rules.specs.KeyLoop.{noTracker, freshShared}
 use Rattle.rules.specs.Calls.{fresh, graphNavigator}
-use Rattle.keypairs.specs.Views.{trackerOf, blocks}
+use Rattle.keypairs.specs.View.{trackerOf, blocks}
 use borrow.Author.Needs.{needs}
 use Rattle.keymachine.proofs.machine.ModalMachine.fresh.Statement.{statement}
 use Rattle.keymachine.proofs.machine.ModalMachine.fresh.Tie as tie

@@ -4,7 +4,7 @@ use mathlib.Core.Path.{_≡_, ap, _∙_}
 use lib.ListN.{length}
 use Rattle.rules.specs.KeyLoop.{Input, inputKey}
 use borrow.Author.Needs.{needs}
-use Rattle.keymachine.specs.Views.{machineOf}
+use Rattle.keymachine.specs.View.{machineOf}
 use Rattle.keymachine.proofs.Calls.{press-refused, press-done}
 use Rattle.keymachine.proofs.machine.ModalMachine.input_key.Statement.{statement}
 use Rattle.keymachine.proofs.machine.ModalMachine.input_key.Tie as tie

@@ -2,9 +2,9 @@
 use mathlib.Core.Path.{_≡_, refl}
 use Rattle.rules.specs.Tables.{noTables, tablesValid}
 use Rattle.rules.specs.Calls.{fresh, graphKind}
-use Rattle.keypairs.specs.Views.{wholeTables, wordsOf}
+use Rattle.keypairs.specs.View.{wholeTables, wordsOf}
 use Rattle.keypairs.proofs.Packs.{packed-valid, packed-words}
-use Rattle.keymachine.specs.Views.{machineOf}
+use Rattle.keymachine.specs.View.{machineOf}
 use Rattle.keymachine.proofs.Calls.{opened, not-opened, withTables, retabled}
 use borrow.Author.Needs.{needs}
 use Rattle.keymachine.proofs.machine.ModalMachine.open.Statement.{statement}

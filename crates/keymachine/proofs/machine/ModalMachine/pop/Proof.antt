@@ -2,7 +2,7 @@
 use mathlib.Core.Path.{_≡_, refl}
 use native.Mathlib.Omega.{arith}
 use lib.ListN.{length}
-use Rattle.keymachine.specs.Views.{machineOf}
+use Rattle.keymachine.specs.View.{machineOf}
 use Rattle.keymachine.proofs.Calls.{shifted, pop-none, pop-some}
 use borrow.Author.Needs.{needs}
 use Rattle.keymachine.proofs.machine.ModalMachine.pop.Statement.{statement}

@@ -6,9 +6,9 @@ use native.Mathlib.Omega.{arith}
 use lib.ListN.{length, drop, getD}
 use lib.Seq.{paste}
 use Rattle.rules.specs.KeyLoop.{Tracker, noTracker, fetch}
-use Rattle.keypairs.specs.Views.{overOf, pairsOf, trackersOf}
+use Rattle.keypairs.specs.View.{overOf, pairsOf, trackersOf}
 use Rattle.keypairs.proofs.Sequences.{length-pairs}
-use Rattle.keymachine.specs.Views.{machineOf}
+use Rattle.keymachine.specs.View.{machineOf}
 use Rattle.keymachine.proofs.Repeats.{repeat-over, repeat-full, repeat-done, fetched-sequences, fetched-long, fetched-few, built-queue}
 use borrow.Author.Needs.{needs}
 use Rattle.keymachine.proofs.machine.ModalMachine.repeat.Statement.{statement}

@@ -3,8 +3,8 @@ use mathlib.Core.Path.{_≡_, refl}
 use lib.ListN.{take}
 use Rattle.keyparts.specs.View.{classesOf}
 use Rattle.keygraph.specs.View.{graphOf}
-use Rattle.keypairs.specs.Views.{outcome, stateOf, wordsOf, contextOf, pairsOf, trackersOf}
-use Rattle.keymachine.specs.Views.{machineOf}
+use Rattle.keypairs.specs.View.{outcome, stateOf, wordsOf, contextOf, pairsOf, trackersOf}
+use Rattle.keymachine.specs.View.{machineOf}
 use Rattle.keymachine.proofs.Calls.{reset-refused, reset-done, reset-is}
 use borrow.Author.Needs.{needs}
 use Rattle.keymachine.proofs.machine.ModalMachine.reset_mode.Statement.{statement}

@@ -1,7 +1,7 @@
 -- The tests come in the order of the definition.
 use mathlib.Core.Path.{_≡_, refl, sym, _∙_}
 use Rattle.rules.specs.Tables.{modeValid}
-use Rattle.keypairs.specs.Views.{wholeEntry}
+use Rattle.keypairs.specs.View.{wholeEntry}
 use borrow.Author.Needs.{needs}
 use Rattle.keypairs.proofs.tables.ModeEntry.valid.Statement.{statement}
 use Rattle.keypairs.proofs.tables.ModeEntry.valid.Tie as tie

@@ -2,7 +2,7 @@
 use mathlib.Core.Path.{_≡_, refl}
 use Rattle.rules.specs.Tables.{noTables}
 use Rattle.keyparts.specs.View.{fit}
-use Rattle.keypairs.specs.Views.{wholeTables}
+use Rattle.keypairs.specs.View.{wholeTables}
 use Rattle.keypairs.proofs.tables.Tables.empty.Statement.{statement}
 use Rattle.keypairs.proofs.tables.Tables.empty.Tie as tie
 

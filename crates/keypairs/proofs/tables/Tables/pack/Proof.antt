@@ -4,7 +4,7 @@ use mathlib.Core.Bool.{true, false}
 use lib.ListN.{length}
 use borrow.Author.Tests.{not-true, not-false}
 use Rattle.keyparts.proofs.Ranges.{length-mapped}
-use Rattle.keypairs.specs.Views.{wholeTables}
+use Rattle.keypairs.specs.View.{wholeTables}
 use Rattle.keypairs.proofs.Packs.{never, over-classes, bad-classes, over-modes, bad-modes, over-rules, rules-too, all-words, packed}
 use borrow.Author.Needs.{needs}
 use Rattle.keypairs.proofs.tables.Tables.pack.Statement.{statement}

@@ -10,7 +10,7 @@ use Rattle.rules.specs.Basics.{every}
 use Rattle.rules.specs.Tables.{modeValid, ModeEntry}
 use Rattle.keyparts.specs.declared.step.Maybe.the-variants.{Nothing}
 use Rattle.keypairs.specs.declared.tables.ModeEntry as raw
-use Rattle.keypairs.specs.Views.{wholeEntry, entryOf, blocks}
+use Rattle.keypairs.specs.View.{wholeEntry, entryOf, blocks}
 use Rattle.keyparts.proofs.Ranges.{length-mapped, view-count}
 use Rattle.keypairs.proofs.Lists.{length-blocks}
 use Rattle.keypairs.proofs.Packs.{never, every-on, every-stop, every-end, pack-on, pack-end, view-at, three-words}

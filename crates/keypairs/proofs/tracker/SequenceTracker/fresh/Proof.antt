@@ -1,7 +1,7 @@
 -- A head of 0 counts no pair and is not broken.
 use mathlib.Core.Path.{refl}
 use Rattle.rules.specs.KeyLoop.{noTracker}
-use Rattle.keypairs.specs.Views.{trackerOf}
+use Rattle.keypairs.specs.View.{trackerOf}
 use Rattle.keypairs.proofs.tracker.SequenceTracker.fresh.Statement.{statement}
 use Rattle.keypairs.proofs.tracker.SequenceTracker.fresh.Tie as tie
 

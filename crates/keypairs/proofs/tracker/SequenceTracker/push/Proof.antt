@@ -2,7 +2,7 @@
 use mathlib.Core.Path.{_≡_, refl, sym, ap, _∙_}
 use Rattle.rules.specs.Values.{Pair}
 use Rattle.rules.specs.KeyLoop.{track}
-use Rattle.keypairs.specs.Views.{trackerOf, statusBy}
+use Rattle.keypairs.specs.View.{trackerOf, statusBy}
 use Rattle.keypairs.proofs.Sequences.{settled-no, settled-ok}
 use borrow.Author.Needs.{needs}
 use Rattle.keypairs.proofs.tracker.SequenceTracker.push.Statement.{statement}

@@ -4,7 +4,7 @@ use mathlib.Core.Path.{_≡_, sym, _∙_, subst}
 use native.Mathlib.Omega.{arith}
 use lib.ListN.{length, getD, replicate}
 use Rattle.keyparts.specs.View.{reached}
-use Rattle.keyparts.proofs.Links.{length-reached, reached-short, reached-at, Linked, linked-none, linked-more, linked-all, indexed-follow}
+use Rattle.keyparts.proofs.Links.{length-reached, reached-short, reached-at, Linked, linked-none, linked-more, linked-all}
 use borrow.Author.Needs.{needs}
 use Rattle.keyparts.proofs.index.Index.new.Statement.{statement}
 use Rattle.keyparts.proofs.index.Index.new.Tie as tie
@@ -14,6 +14,9 @@ Inv-loop edges count links₀ i₀ links i = (i ≤ i₀) × Linked (reached edg
 
 abbrev μ-loop : tie.MeasureT-loop
 μ-loop edges count links₀ i₀ links i = i
+
+cast-least-of : tie.Need-cast-least-of Inv-loop μ-loop
+cast-least-of c = search needs
 
 least-of-requires : tie.Need-least-of-requires Inv-loop μ-loop
 least-of-requires c κs = search needs
@@ -57,7 +60,7 @@ returns : tie.Need-returns Inv-loop μ-loop
 returns c = let a = c .before .before .before .before .before .args in let l = c .before .loop in
     let z : l .i ≡ 0 = omega (arith, c .loop-test .left) in
     let h = linked-all (reached (a .edges .now) (a .count)) (reached-short (a .count) (a .edges .now)) (l .links) (subst (Linked (reached (a .edges .now) (a .count)) (reached-short (a .count) (a .edges .now)) (l .links)) z (l .inv .1)) in
-    (indexed-follow (reached (a .edges .now) (a .count)) (l .links) (reached-short (a .count) (a .edges .now)) h, h)
+    h
 
 pub new-spec : {M : Type 1} → statement M
 new-spec =
@@ -65,6 +68,7 @@ new-spec =
     (tie.spec
     Inv-loop
     μ-loop
+    cast-least-of
     least-of-requires
     least-requires
     loop-holds

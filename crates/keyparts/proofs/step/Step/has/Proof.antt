@@ -17,6 +17,9 @@ Inv-loop action self n i₀ i = (i ≤ n) × (some-of (eqb action) (take (self .
 abbrev μ-loop : tie.MeasureT-loop
 μ-loop action self n i₀ i = n - i
 
+cast-least : tie.Need-cast-least Inv-loop μ-loop
+cast-least c = search needs
+
 least-requires : tie.Need-least-requires Inv-loop μ-loop
 least-requires c κs = search needs
 
@@ -56,6 +59,7 @@ has-spec =
     (tie.spec
     Inv-loop
     μ-loop
+    cast-least
     least-requires
     loop-holds
     mul-if1

@@ -1,0 +1,25 @@
+-- The slices are the parts of the words that the definitions name.
+use Rattle.keyparts.specs.View.{edgeWords}
+use borrow.Author.Needs.{needs}
+use Rattle.keyparts.proofs.layout.has_edges.Statement.{statement}
+use Rattle.keyparts.proofs.layout.has_edges.Tie as tie
+
+sub-edges : tie.Need-sub-edges
+sub-edges c = search needs
+
+part-edges-start : tie.Need-part-edges-start
+part-edges-start c = search needs
+
+part-edges-end : tie.Need-part-edges-end
+part-edges-end c = search needs
+
+has-edges-requires : tie.Need-has-edges-requires
+has-edges-requires c κs = search needs
+
+returns : tie.Need-returns
+unfolding edgeWords
+returns c = c .has-edges .ensures
+
+pub has-edges-spec : {M : Type 1} → statement M
+has-edges-spec =
+    tie.close (tie.spec sub-edges part-edges-start part-edges-end has-edges-requires returns)
