@@ -5,3 +5,4 @@ pub mod Nodes
 pub mod Ranges
 pub mod Links
 pub mod Places
+pub mod Copies

@@ -1,14 +1,14 @@
 -- The three parts of a graph's words: a word that goes into one leaves the others as they are, so the laws of edges and nodes hold
 -- of the whole.
-use Prim.Native.Nat.{ℕ, zero, suc, _+_, _-_, _*_, _/_, _%_, _<_, _≤_, min}
-use mathlib.Core.Path.{_≡_, refl, sym, ap, _∙_, subst}
+use Prim.Native.Nat.{ℕ, _+_, _-_, _*_, _/_, _%_, _<_, _≤_, min}
+use mathlib.Core.Path.{_≡_, sym, ap, _∙_, subst}
 use mathlib.Core.Bool.{Bool, true, false}
 use mathlib.Core.List.{List, [], _∷_, _++_}
 use native.Mathlib.Omega.{arith}
 use native.Mathlib.Numerals.{add-one}
 use lib.Dec.{ltb}
 use lib.ListN.{length, take, drop, set, getD, length-take, length-drop}
-use lib.Seq.{take-set-lt, take-set-le, take-suc-set, drop-set-lt, drop-set-add}
+use lib.Seq.{set-out, take-set-lt, take-set-le, take-suc-set, drop-set-lt, drop-set-add}
 use borrow.Author.Tests.{lt-ltb, le-ltb, eqb-true}
 use Rattle.rules.specs.Basics.{if_then_else_, accept, refuse}
 use Rattle.rules.specs.Graph.{Graph, addEdge, addNode, settle}
@@ -31,11 +31,6 @@ module _ (ws : List ℕ) (hl : length ws ≡ 4128) where
   pub acts-length : length (actWords ws) ≡ 1040
   unfolding actWords
   acts-length = omega (arith, length-take 1040 (drop 3088 ws), length-drop 3088 ws)
-
-set-past : (l : List ℕ) (i w : ℕ) → length l ≤ i → set l i w ≡ l
-set-past [] i w h = refl
-set-past (x ∷ l) zero w h = absurd (omega arith)
-set-past (x ∷ l) (suc i) w h = let k : length l ≤ i = omega arith in ap (λ (r : List ℕ). x ∷ r) (set-past l i w k)
 
 -- ---- what one store changes
 module _ (ws : List ℕ) (i w : ℕ) where
@@ -84,16 +79,16 @@ edge-stored ws i w k h = rw (edge-in ws i w h, edge-heads ws i w h, edge-acts ws
 
 -- past the last place of an edge or of a node a store in the parts changes nothing
 pub edge-past : (ws : List ℕ) (i w : ℕ) (k : Counts) → length ws ≡ 4128 → 2048 ≤ i → graphIn ws k ≡ withEdge ws i w k
-edge-past ws i w k hl h = let l : length (edgeWords ws) ≤ i = omega (arith, edges-length ws hl) in rw (set-past (edgeWords ws) i w l)
+edge-past ws i w k hl h = let l : length (edgeWords ws) ≤ i = omega (arith, edges-length ws hl) in rw (set-out (edgeWords ws) i w l)
 
 pub edge-words-past : (ws : List ℕ) (i w : ℕ) → length ws ≡ 4128 → 2048 ≤ i → edgeWords ws ≡ set (edgeWords ws) i w
-edge-words-past ws i w hl h = let l : length (edgeWords ws) ≤ i = omega (arith, edges-length ws hl) in sym (set-past (edgeWords ws) i w l)
+edge-words-past ws i w hl h = let l : length (edgeWords ws) ≤ i = omega (arith, edges-length ws hl) in sym (set-out (edgeWords ws) i w l)
 
 pub node-past : (ws : List ℕ) (i : ℕ) (p : NodeWords) (k : Counts) → length ws ≡ 4128 → 1040 ≤ i → graphIn ws k ≡ withNode ws i p k
 node-past ws i p k hl h =
     let l : length (headWords ws) ≤ i = omega (arith, heads-length ws hl) in
     let m : length (actWords ws) ≤ i = omega (arith, acts-length ws hl) in
-    rw (set-past (headWords ws) i (p .head) l, set-past (actWords ws) i (p .acts) m)
+    rw (set-out (headWords ws) i (p .head) l, set-out (actWords ws) i (p .acts) m)
 
 pub node-stored : (ws : List ℕ) (i h w : ℕ) (k : Counts) → i < 1040
     → graphIn (set (set ws (2048 + i) h) (3088 + i) w) k ≡ graphFrom (set (headWords ws) i h) (set (actWords ws) i w) (edgeWords ws) k

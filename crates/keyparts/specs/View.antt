@@ -5,6 +5,7 @@ use mathlib.Core.Bool.{Bool, true, false}
 use mathlib.Core.Option.{Option, none, some}
 use mathlib.Core.List.{List, [], _∷_, _++_, map}
 use lib.Dec.{ltb, eqb}
+use lib.Seq.{paste}
 use lib.ListN.{length, take, drop, replicate, set, getD}
 use Rattle.rules.specs.Basics.{if_then_else_, Result, accept, refuse}
 use Rattle.rules.specs.Values as v
@@ -246,6 +247,12 @@ ruleWords ws = take 64 (drop 67 ws)
 
 abbrev pub classesIn : List ℕ → List ClassEntry
 classesIn ws = classesOf (classWords ws) (sizesIn ws .classes)
+
+-- ---- words that are copied
+
+-- n words of src from one place on, in dst from another on; where they do not fit, dst
+unfoldable pub copied : List ℕ → ℕ → List ℕ → ℕ → ℕ → List ℕ
+copied dst to src from n = if ltb (length dst) (to + n) then dst else (if ltb (length src) (from + n) then dst else paste dst to (drop from src) n)
 
 -- ---- searches
 

@@ -5,6 +5,7 @@
 // The functions that are called for every key take slices of words and copy nothing.
 pub mod answer;
 pub mod class;
+pub mod copy;
 pub mod edge;
 pub mod event;
 pub mod find;
