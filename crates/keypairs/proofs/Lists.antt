@@ -6,7 +6,8 @@ use native.Mathlib.Omega.{arith}
 use native.Mathlib.Numerals.{add-one}
 use lib.ListN.{length, take, drop, set, getD, length-take, length-drop, length-map, length-append}
 use lib.Seq.{drop-drop, getD-take, getD-drop, drop-cons, take-suc, take-set-le, take-set-lt, drop-set-lt, drop-set-add, getD-at, set-at, take-at, drop-at, length-take-le, take-add}
-use Rattle.keypairs.specs.View.{outcome, blocks}
+use Rattle.keyparts.specs.View.{outcome}
+use Rattle.keypairs.specs.View.{blocks}
 use Rattle.rules.specs.Basics.{accept, refuse}
 
 pub getD-mapped : {A B : Type 0} (f : A → B) (l : List A) (i : ℕ) (d : B) (z : A) → i < length l → getD (map f l) i d ≡ f (getD l i z)
@@ -88,10 +89,12 @@ blocks-part k (suc n) ws (suc i) new h l e =
 -- ---- outcomes
 
 pub outcome-ok : {A : Type 0} (n : ℕ) (a : A) → n ≡ 0 → outcome n a ≡ accept a
+unfolding outcome
 outcome-ok zero a e = refl
 outcome-ok (suc n) a e = absurd (omega arith)
 
 pub outcome-no : {A : Type 0} (n : ℕ) (a : A) → (n ≡ 0 → ⊥) → outcome n a ≡ refuse n
+unfolding outcome
 outcome-no zero a e = absurd (e refl)
 outcome-no (suc n) a e = refl
 

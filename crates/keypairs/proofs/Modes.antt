@@ -16,8 +16,8 @@ use Rattle.rules.specs.Tables.{Tables, ModeEntry, noEntry, modeEntry}
 use Rattle.rules.specs.KeyLoop.{Tracker, Shared, State, at, pushAll, giveAll, gotoMode, unmapped, stepTo, step, orDefault, setMark}
 use Rattle.rules.specs.Graph.{Graph}
 use Rattle.rules.specs.Calls.{graphNavigator}
-use Rattle.keyparts.specs.View.{fourOf, optOf}
-use Rattle.keypairs.specs.View.{outcome, blocks, entryOf, modesOf, shared, giveGoto}
+use Rattle.keyparts.specs.View.{fourOf, optOf, outcome}
+use Rattle.keypairs.specs.View.{blocks, entryOf, modesOf, shared, giveGoto}
 use Rattle.keypairs.proofs.Lists.{length-blocks, blocks-word, getD-mapped}
 
 -- ---- entries
@@ -78,7 +78,7 @@ module _ (t : Tables) (g : Graph) where
       → e ≡ modeEntry (t .modes) mode → acts ≡ e .enter → place ≡ mode → _≡_ {A = Context × Context} (y, z) (x, noContext)
       → outcome refusal (shared t mode z q' tr ts') ≡ pushAll acts y (shared t mode z q tr ts)
       → outcome refusal (at place (shared t mode z q' tr ts')) ≡ gotoMode (graphNavigator g) mode (shared t old x q tr ts)
-  unfolding gotoMode giveAll graphNavigator
+  unfolding gotoMode giveAll graphNavigator outcome
   goto-is refusal mode old place x y z acts q q' tr ts ts' e ee ea er ex p =
       let ez : z ≡ noContext = ap (λ (w : Context × Context). w .1) ex in
       let ey : y ≡ x = ap (λ (w : Context × Context). w .0) ex in

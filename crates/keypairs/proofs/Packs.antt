@@ -13,12 +13,13 @@ use Rattle.rules.specs.Basics.{every, Result, accept, refuse, unless}
 use Rattle.rules.specs.Values.{isMode, isSequence}
 use Rattle.rules.specs.Tables.{ModeEntry, Rule, Tables, classValid, modeValid, ruleValid, tablesValid, noEntry}
 use Rattle.rules.proofs.Tests.{and-l, and-r}
-use Rattle.keyparts.specs.View.{fourOf, optOf, maybeOf, fit, classesOf}
+use Rattle.keyparts.specs.View.{fourOf, optOf, maybeOf, fit, classesOf, sizesIn, classWords, modeWords, ruleWords}
+use Rattle.keyparts.specs.declared.tables.Sizes.{Sizes}
 use Rattle.keyparts.proofs.Ranges.{take-map, fit-take, fit-length}
 use Rattle.keypairs.specs.declared.tables.ModeEntry as entry
 use Rattle.keypairs.specs.declared.tables.Tables as declared
 use Rattle.keypairs.specs.declared.rule.Rule as rule
-use Rattle.keypairs.specs.View.{blocks, ruleOf, rulesOf, ruleBy, classBy, entryOf, modesOf, wholeActions, wholeEntry, wholeTables, tables, noClass, noRule}
+use Rattle.keypairs.specs.View.{blocks, ruleOf, rulesOf, ruleBy, classBy, entryOf, modesOf, wholeActions, wholeEntry, wholeTables, tables, tablesIn, noClass, noRule}
 use Rattle.keypairs.proofs.Lists.{getD-mapped, length-blocks, getD-blocks, blocks-set}
 
 -- ---- words
@@ -189,6 +190,12 @@ module _ (x : declared.Tables) (lc : length (x .classes) ≡ 16) (lm : length (x
                 → tables (classesOf cs (x .sizes .classes)) (modesOf (x .sizes .modes) ms) (rulesOf (x .sizes .rules) rs) ≡ wholeTables x
             unfolding wholeTables
             all-words cs ms rs ec em er = rw (ec, em, er, classes-are, modes-are, rules-are)
+
+-- the tables in words, from what stands where in them
+pub tables-from : (ws : List ℕ) (z : Sizes) (cs ms rs : List ℕ) → sizesIn ws ≡ z → classWords ws ≡ cs → modeWords ws ≡ ms → ruleWords ws ≡ rs
+    → tablesIn ws ≡ tables (classesOf cs (z .classes)) (modesOf (z .modes) ms) (rulesOf (z .rules) rs)
+unfolding tablesIn
+tables-from ws z cs ms rs ez ec em er = rw (ez, ec, em, er)
 
 -- ---- tables that were packed: b tells whether they were in range, and w is what the words mean
 

@@ -12,7 +12,8 @@ use Rattle.rules.specs.Basics.{Result, accept, refuse, _>>=_, unless}
 use Rattle.rules.specs.Values.{Pair, Context}
 use Rattle.rules.specs.Tables.{Tables, Rule}
 use Rattle.rules.specs.KeyLoop.{Tracker, Shared, applyRules, push, pushAll}
-use Rattle.keypairs.specs.View.{outcome, pairOf, pairsOf, shared}
+use Rattle.keyparts.specs.View.{outcome}
+use Rattle.keypairs.specs.View.{pairOf, pairsOf, shared}
 use Rattle.keypairs.proofs.Sequences.{pairs-more, length-pairs}
 
 module _ (t : Tables) (x : Context) (tr : List ℕ) (mode w : ℕ) (p : Pair) (ep : pairOf w ≡ p) (qs : List ℕ) (queued : ℕ) (ts : List Tracker) where

@@ -17,7 +17,8 @@ use Rattle.rules.specs.Tables as t
 use Rattle.rules.specs.Calls as c
 use Rattle.rules.specs.KeyLoop.{Tracker, tracker, noTracker, track, override, fetch, applyRule, applyRules}
 use Rattle.keyparts.proofs.Finds.{map-set}
-use Rattle.keypairs.specs.View.{outcome, pairOf, pairsOf, trackerOf, trackersOf, fetchedAt, blocks, ruleOf, rulesOf, broke, settledBy}
+use Rattle.keyparts.specs.View.{outcome, settled}
+use Rattle.keypairs.specs.View.{pairOf, pairsOf, trackerOf, trackersOf, fetchedAt, blocks, ruleOf, rulesOf, broke}
 use Rattle.keypairs.proofs.Lists.{map-more, map-at, map-long, length-blocks, getD-blocks, getD-mapped, blocks-part}
 
 pub packed : (a c m : ℕ) → a < 65536 → c < 65536 → m < 65536 → pairOf (a + c * 65536 + m * 4294967296) ≡ pair a c m
@@ -165,7 +166,7 @@ module _ (ws : List ℕ) (q : ℕ) (e : length ws ≡ 520) (h : q < 8) where
       → q ≡ u .sequence → st ≡ statusOf (u .status) → k ≡ 65 → length new ≡ 65
       → outcome r (trackerOf new) ≡ track st (pairOf w) (trackerOf (take k (drop (q * 65) ws)))
       → outcome r (trackersOf (take (q * 65) ws ++ (new ++ drop k (drop (q * 65) ws)))) ≡ applyRule mode (pairOf w) (ruleOf word) (trackersOf ws)
-  unfolding applyRule
+  unfolding applyRule outcome
   rule-in mode w word r k new u st a b eu ea eb t eq es ek n p =
       let m : matches u mode (pairOf w .action) ≡ true = ap (matches u mode) (pair-action w ∙ sym ea) ∙ sym eb ∙ t in
       let p' : outcome r (trackerOf new) ≡ track (statusOf (u .status)) (pairOf w) (trackerOf (block ws q)) = p ∙ rw (es, ek) in
@@ -246,12 +247,12 @@ module _ (ws : List ℕ) (q : ℕ) (o : Option Context) (e : length ws ≡ 520) 
 
 -- ---- answers by value
 
-pub settled-no : {A : Type 0} (n : ℕ) (old new : A) (r : Result A) → (n ≡ 0 → ⊥) → outcome n new ≡ r → _≡_ {A = A × c.Answer} (old, c.Refused n) (settledBy old r)
-unfolding settledBy
+pub settled-no : {A : Type 0} (n : ℕ) (old new : A) (r : Result A) → (n ≡ 0 → ⊥) → outcome n new ≡ r → _≡_ {A = A × c.Answer} (old, c.Refused n) (settled old r)
+unfolding settled outcome
 settled-no zero old new r h e = absurd (h refl)
 settled-no (suc n) old new r h e = rw (← e)
 
-pub settled-ok : {A : Type 0} (n : ℕ) (old new : A) (r : Result A) → n ≡ 0 → outcome n new ≡ r → _≡_ {A = A × c.Answer} (new, c.Accepted) (settledBy old r)
-unfolding settledBy
+pub settled-ok : {A : Type 0} (n : ℕ) (old new : A) (r : Result A) → n ≡ 0 → outcome n new ≡ r → _≡_ {A = A × c.Answer} (new, c.Accepted) (settled old r)
+unfolding settled outcome
 settled-ok zero old new r h e = rw (← e)
 settled-ok (suc n) old new r h e = absurd (omega arith)

@@ -12,7 +12,7 @@ use Rattle.rules.specs.Tables as t
 use Rattle.rules.specs.KeyLoop as key
 use Rattle.rules.specs.Calls as c
 use Rattle.rules.specs.Graph as g
-use Rattle.keyparts.specs.View.{fourOf, optOf, classesOf, maybeOf, fit}
+use Rattle.keyparts.specs.View.{fourOf, optOf, classesIn, sizesIn, modeWords, ruleWords, maybeOf, fit}
 use Rattle.keypairs.specs.declared.context.Context.{Context}
 use Rattle.keypairs.specs.declared.context.Override.{Override}
 use Rattle.keypairs.specs.declared.context.Override.the-variants.{Nothing, By}
@@ -24,23 +24,9 @@ use Rattle.keypairs.specs.declared.rule.Rule.{Rule}
 use Rattle.keypairs.specs.declared.tables.Actions.{Actions}
 use Rattle.keypairs.specs.declared.tables.ClassEntry.{ClassEntry}
 use Rattle.keypairs.specs.declared.tables.Tables.{Tables}
-use Rattle.keypairs.specs.declared.tables.TableWords.{TableWords}
-use Rattle.keypairs.specs.declared.tables.Packed.{Packed}
+use Rattle.keypairs.specs.declared.tables.PackResult.{PackResult}
 use Rattle.keypairs.specs.declared.tables.ModeEntry.{ModeEntry}
 use Rattle.keypairs.specs.declared.state.State.{State}
-use Rattle.keypairs.specs.declared.state.Sizes.{Sizes}
-
--- ---- refusals
-
--- a value with the number of a refusal, or 0
-abbrev pub outcome : {A : Type 0} → ℕ → A → Result A
-outcome zero a = accept a
-outcome (suc n) a = refuse (suc n)
-
--- what a call leaves and answers: refused, what was there before
-unfoldable pub settledBy : {A : Type 0} → A → Result A → A × c.Answer
-settledBy old (accept new) = (new, c.Accepted)
-settledBy old (refuse n) = (old, c.Refused n)
 
 -- ---- context and pair
 
@@ -164,15 +150,13 @@ entryOf b = record {
 abbrev pub modesOf : ℕ → List ℕ → List t.ModeEntry
 modesOf n ws = map entryOf (take n (blocks 3 16 ws))
 
-abbrev pub tablesOf : Sizes → List ℕ → List ℕ → List ℕ → t.Tables
-tablesOf z cs ms rs = tables (classesOf cs (z .classes)) (modesOf (z .modes) ms) (rulesOf (z .rules) rs)
-
-abbrev pub wordsOf : TableWords → t.Tables
-wordsOf w = tablesOf (w .sizes) (w .classes) (w .modes) (w .rules)
+-- the tables in their words
+unfoldable pub tablesIn : List ℕ → t.Tables
+tablesIn ws = tables (classesIn ws) (modesOf (sizesIn ws .modes) (modeWords ws)) (rulesOf (sizesIn ws .rules) (ruleWords ws))
 
 -- tables that were packed: those of the words, if they were in range
-abbrev pub packedBy : Packed → Result t.Tables
-packedBy p = unless (p .valid) 1 (accept (wordsOf (p .words)))
+abbrev pub packedBy : PackResult → Result t.Tables
+packedBy p = unless (p .valid) 1 (accept (tablesIn (p .words .words)))
 
 -- a state over tables, a queue, sequences and a trail
 abbrev pub sharedOf : State → t.Tables → List ℕ → List ℕ → List ℕ → key.Shared

@@ -13,7 +13,7 @@ pub struct Context {
 }
 
 // What `take` leaves, and what it took.
-pub struct Taken {
+pub struct TakeResult {
     pub context: Context,
     pub answer: Context,
 }
@@ -77,10 +77,10 @@ impl Context {
     }
 
     // The context, and the zeros that it leaves.
-    pub fn take(self) -> Taken
+    pub fn take(self) -> TakeResult
         ensures { λ r. ⌜ (contextOf (r .answer), contextOf (r .context)) ≡ v.take (contextOf self) ⌝ }
     {
-        Taken {
+        TakeResult {
             context: Context { count: 0, mark: 0 },
             answer: self,
         }

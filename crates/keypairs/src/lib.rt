@@ -13,4 +13,3 @@ pub mod state;
 pub mod step;
 pub mod tables;
 pub mod tracker;
-mod word;

@@ -1,14 +1,16 @@
 // The mode table in words, and entering a mode. A mode has three words: its enter list, its unmapped list, and a head with
 // their counts and the next mode.
+use crate::pair::Pair;
 use crate::queue;
-use crate::state::Sizes;
 use crate::state::State;
 use crate::tables::Actions;
 use crate::tables::ModeEntry;
-use crate::word;
+use crate::tracker::SequenceTracker;
 use keyparts::node;
 use keyparts::number;
 use keyparts::step::Maybe;
+use keyparts::step::Step;
+use keyparts::tables::TableWords;
 ghost use mathlib.Core.Path.{_≡_};
 ghost use mathlib.Core.List.{List};
 ghost use mathlib.Core.Option.{Option·getD};
@@ -18,11 +20,11 @@ ghost use Rattle.rules.specs.Tables as t;
 ghost use Rattle.rules.specs.KeyLoop as key;
 ghost use Rattle.rules.specs.Graph as g;
 ghost use Rattle.rules.specs.Calls.{graphNavigator};
-ghost use Rattle.keyparts.specs.View.{maybeOf, fourOf};
-ghost use Rattle.keypairs.specs.View.{outcome, rulesOf, modesOf, entryBy, actionsBy, tables, sharedOf, stateOf, giveGoto};
+ghost use Rattle.keyparts.specs.View.{outcome, maybeOf, fourOf};
+ghost use Rattle.keypairs.specs.View.{entryBy, actionsBy, tablesIn, sharedOf, stateOf, giveGoto};
 
 // The number of a refusal, or 0 and the state that was come to.
-pub struct Moved {
+pub struct GotoResult {
     pub refusal: u16,
     pub state: State,
 }
@@ -43,15 +45,18 @@ fn actions_in(w: u64, count: u16) -> Actions
 }
 
 // The entry of a mode; empty lists and no next mode where the table does not reach.
-pub(crate) fn mode_entry(modes: &[u64], count: u16, mode: u16) -> ModeEntry
-    ensures { λ r. ⌜ entryBy r ≡ t.modeEntry (modesOf count (now (modes .entry))) mode ⌝ }
+pub(crate) fn mode_entry(tables: &[u64; TableWords::WORDS], mode: u16) -> ModeEntry
+    requires { ⌜ length (now tables) ≡ 131 ⌝ }
+    ensures { λ r. ⌜ entryBy r ≡ t.modeEntry (tablesIn (now (tables .entry)) .modes) mode ⌝ }
 {
-    let n = number::least(count, 16);
+    let all = &tables[..];
+    let modes = &all[TableWords::MODES_AT..TableWords::RULES_AT];
+    let n = number::least(number::low(all[1]), TableWords::MODES as usize);
     let i = mode as usize;
     if i < n {
-        let head = word::word_at(modes, i * 3 + 2);
-        let enter = actions_in(word::word_at(modes, i * 3), word::bits3(head));
-        let unmapped = actions_in(word::word_at(modes, i * 3 + 1), word::bits3(head / 8));
+        let head = number::word_at(modes, i * 3 + 2);
+        let enter = actions_in(number::word_at(modes, i * 3), number::bits3(head));
+        let unmapped = actions_in(number::word_at(modes, i * 3 + 1), number::bits3(head / 8));
         let next = node::unopt(head / 64);
         return ModeEntry {
             enter: enter,
@@ -59,59 +64,39 @@ pub(crate) fn mode_entry(modes: &[u64], count: u16, mode: u16) -> ModeEntry
             next: next,
         };
     }
-    ModeEntry {
-        enter: Actions {
-            items: [0u16; 4],
-            count: 0,
-        },
-        unmapped: Actions {
-            items: [0u16; 4],
-            count: 0,
-        },
-        next: Maybe::Nothing,
-    }
+    ModeEntry::empty()
 }
 
-// Enters the mode, even the same one: its enter list takes the context, and the place is its root.
-pub fn goto_mode<'a>(
-    modes: &'a [u64],
-    rules: &'a [u64],
-    sizes: Sizes,
-    queue: &mut [u64; 256],
-    sequences: &mut [u64; 520],
+// Enters the mode, even the same one: its enter list takes the context, and the place is its root. Refused, the lent arrays
+// are scratch: the number alone counts.
+pub fn goto_mode_or_scratch(
+    tables: &[u64; TableWords::WORDS],
+    queue: &mut [u64; Pair::QUEUE as usize],
+    sequences: &mut [u64; SequenceTracker::ALL],
     s: State,
     mode: u16,
-) -> Moved
-    requires { ⌜ (length (now queue) ≡ 256) × (length (now sequences) ≡ 520) ⌝ }
+) -> GotoResult
+    requires { ⌜ (length (now tables) ≡ 131) × (length (now queue) ≡ 256) × (length (now sequences) ≡ 520) ⌝ }
     ensures { λ _. ⌜ (length (now (queue .exit)) ≡ 256) × (length (now (sequences .exit)) ≡ 520) ⌝ }
-    ensures { λ r. ⌜ ((cs : List t.ClassEntry) (g : g.Graph) (tr : List ℕ) → outcome (r .refusal) (stateOf (r .state) (tables cs (modesOf (sizes .modes) (now (modes .entry))) (rulesOf (sizes .rules) (now (rules .entry)))) (now (queue .exit)) (now (sequences .exit)) tr) ≡ key.gotoMode (graphNavigator g) mode (sharedOf s (tables cs (modesOf (sizes .modes) (now (modes .entry))) (rulesOf (sizes .rules) (now (rules .entry)))) (now (queue .entry)) (now (sequences .entry)) tr)) ⌝ }
+    ensures { λ r. ⌜ ((g : g.Graph) (tr : List ℕ) → outcome (r .refusal) (stateOf (r .state) (tablesIn (now (tables .entry))) (now (queue .exit)) (now (sequences .exit)) tr) ≡ key.gotoMode (graphNavigator g) mode (sharedOf s (tablesIn (now (tables .entry))) (now (queue .entry)) (now (sequences .entry)) tr)) ⌝ }
 {
     // The rules of the mode that is entered apply to its enter list.
     let entered = mode;
-    let e = mode_entry(modes, sizes.modes, mode);
+    let e = mode_entry(tables, mode);
     let enter = e.enter;
     let context = s.context;
     let t = context.take();
     let taken = t.answer;
     let zeros = t.context;
-    let r = queue::push_all(
-        rules,
-        sizes.rules,
-        queue,
-        sequences,
-        s.queued,
-        entered,
-        enter,
-        taken,
-    );
-    Moved {
+    let r = queue::push_all(tables, queue, sequences, s.queued, entered, enter, taken);
+    let mut to = s;
+    to.place = node::root(mode);
+    to.mode = mode;
+    to.context = zeros;
+    to.queued = r.queued;
+    GotoResult {
         refusal: r.refusal,
-        state: State {
-            place: node::root(mode),
-            mode: mode,
-            context: zeros,
-            queued: r.queued,
-        },
+        state: to,
     }
 }
 
@@ -121,7 +106,7 @@ fn or_default(a: Actions) -> Actions
 {
     if a.count == 0 {
         return Actions {
-            items: [0u16; 4],
+            items: [0u16; Step::ACTIONS as usize],
             count: 1,
         };
     }
@@ -137,55 +122,34 @@ fn next_or(next: Maybe, mode: u16) -> u16
     }
 }
 
-// The actions are given, or action 0, and then the next mode is entered, or the entered one anew.
-pub(crate) fn give_goto<'a>(
-    modes: &'a [u64],
-    rules: &'a [u64],
-    sizes: Sizes,
-    queue: &mut [u64; 256],
-    sequences: &mut [u64; 520],
+// The actions are given, or action 0, and then the next mode is entered, or the entered one anew. Refused, the lent arrays
+// are scratch.
+pub(crate) fn give_goto(
+    tables: &[u64; TableWords::WORDS],
+    queue: &mut [u64; Pair::QUEUE as usize],
+    sequences: &mut [u64; SequenceTracker::ALL],
     s: State,
     actions: Actions,
     next: Maybe,
-) -> Moved
-    requires { ⌜ (length (now queue) ≡ 256) × (length (now sequences) ≡ 520) ⌝ }
+) -> GotoResult
+    requires { ⌜ (length (now tables) ≡ 131) × (length (now queue) ≡ 256) × (length (now sequences) ≡ 520) ⌝ }
     ensures { λ _. ⌜ (length (now (queue .exit)) ≡ 256) × (length (now (sequences .exit)) ≡ 520) ⌝ }
-    ensures { λ r. ⌜ ((cs : List t.ClassEntry) (g : g.Graph) (tr : List ℕ) → outcome (r .refusal) (stateOf (r .state) (tables cs (modesOf (sizes .modes) (now (modes .entry))) (rulesOf (sizes .rules) (now (rules .entry)))) (now (queue .exit)) (now (sequences .exit)) tr) ≡ giveGoto g (actionsBy actions) (maybeOf next) (sharedOf s (tables cs (modesOf (sizes .modes) (now (modes .entry))) (rulesOf (sizes .rules) (now (rules .entry)))) (now (queue .entry)) (now (sequences .entry)) tr)) ⌝ }
+    ensures { λ r. ⌜ ((g : g.Graph) (tr : List ℕ) → outcome (r .refusal) (stateOf (r .state) (tablesIn (now (tables .entry))) (now (queue .exit)) (now (sequences .exit)) tr) ≡ giveGoto g (actionsBy actions) (maybeOf next) (sharedOf s (tablesIn (now (tables .entry))) (now (queue .entry)) (now (sequences .entry)) tr)) ⌝ }
 {
     let a = or_default(actions);
     let context = s.context;
     let t = context.take();
     let taken = t.answer;
     let left = t.context;
-    let r = queue::push_all(
-        rules,
-        sizes.rules,
-        queue,
-        sequences,
-        s.queued,
-        s.mode,
-        a,
-        taken,
-    );
+    let r = queue::push_all(tables, queue, sequences, s.queued, s.mode, a, taken);
     if r.refusal != 0 {
-        return Moved {
+        return GotoResult {
             refusal: r.refusal,
             state: s,
         };
     }
-    let given = State {
-        place: s.place,
-        mode: s.mode,
-        context: left,
-        queued: r.queued,
-    };
-    goto_mode(
-        modes,
-        rules,
-        sizes,
-        queue,
-        sequences,
-        given,
-        next_or(next, s.mode),
-    )
+    let mut given = s;
+    given.context = left;
+    given.queued = r.queued;
+    goto_mode_or_scratch(tables, queue, sequences, given, next_or(next, s.mode))
 }

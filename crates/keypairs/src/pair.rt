@@ -13,6 +13,9 @@ pub struct Pair {
 }
 
 impl Pair {
+    // So many pairs wait at most.
+    pub const QUEUE: u16 = 256;
+
     // The default pair: action 0 with nothing gathered.
     pub fn default() -> Pair
         ensures { λ r. ⌜ pairBy r ≡ v.defaultPair ⌝ }

@@ -3,53 +3,55 @@ use crate::context::Context;
 use crate::pair::Pair;
 use crate::rule;
 use crate::tables::Actions;
+use crate::tracker::SequenceTracker;
 use keyparts::number;
+use keyparts::step::Step;
+use keyparts::tables::TableWords;
 ghost use mathlib.Core.Path.{_≡_};
 ghost use mathlib.Core.List.{List};
 ghost use Prim.Native.Nat.{ℕ, _<_};
 ghost use lib.ListN.{length, getD};
 ghost use Rattle.rules.specs.Values as v;
-ghost use Rattle.rules.specs.Tables.{ClassEntry, ModeEntry};
 ghost use Rattle.rules.specs.KeyLoop as key;
-ghost use Rattle.keypairs.specs.View.{outcome, actionsBy, contextOf, pairBy, pairsOf, trackersOf, rulesOf, tables, shared};
+ghost use Rattle.keyparts.specs.View.{outcome};
+ghost use Rattle.keypairs.specs.View.{actionsBy, contextOf, pairBy, pairsOf, trackersOf, tablesIn, shared};
 
 // The number of a refusal, or 0 and how many pairs wait then.
-pub struct Pushed {
+pub struct PushResult {
     pub refusal: u16,
     pub queued: u16,
 }
 
 // A pair goes to the sequences by the rules of the mode, and then behind the queue.
 pub(crate) fn push(
-    rules: &[u64],
-    ruled: u16,
-    queue: &mut [u64; 256],
-    sequences: &mut [u64; 520],
+    tables: &[u64; TableWords::WORDS],
+    queue: &mut [u64; Pair::QUEUE as usize],
+    sequences: &mut [u64; SequenceTracker::ALL],
     queued: u16,
     mode: u16,
     pair: Pair,
-) -> Pushed
-    requires { ⌜ (length (now queue) ≡ 256) × (length (now sequences) ≡ 520) ⌝ }
+) -> PushResult
+    requires { ⌜ (length (now tables) ≡ 131) × (length (now queue) ≡ 256) × (length (now sequences) ≡ 520) ⌝ }
     ensures { λ _. ⌜ (length (now (queue .exit)) ≡ 256) × (length (now (sequences .exit)) ≡ 520) ⌝ }
-    ensures { λ r. ⌜ ((cs : List ClassEntry) (ms : List ModeEntry) (x : v.Context) (tr : List ℕ) → outcome (r .refusal) (shared (tables cs ms (rulesOf ruled (now (rules .entry)))) mode x (pairsOf (r .queued) (now (queue .exit))) tr (trackersOf (now (sequences .exit)))) ≡ key.push (pairBy pair) (shared (tables cs ms (rulesOf ruled (now (rules .entry)))) mode x (pairsOf queued (now (queue .entry))) tr (trackersOf (now (sequences .entry))))) ⌝ }
+    ensures { λ r. ⌜ ((x : v.Context) (tr : List ℕ) → outcome (r .refusal) (shared (tablesIn (now (tables .entry))) mode x (pairsOf (r .queued) (now (queue .exit))) tr (trackersOf (now (sequences .exit)))) ≡ key.push (pairBy pair) (shared (tablesIn (now (tables .entry))) mode x (pairsOf queued (now (queue .entry))) tr (trackersOf (now (sequences .entry))))) ⌝ }
 {
     let w = pair.pack();
-    let e = rule::apply_rules(rules, ruled, sequences, mode, w);
+    let e = rule::apply_rules(tables, sequences, mode, w);
     if e != 0 {
-        return Pushed {
+        return PushResult {
             refusal: e,
             queued: queued,
         };
     }
     let n = queued as usize;
-    if n < 256 {
+    if n < Pair::QUEUE as usize {
         queue[n] = w;
-        return Pushed {
+        return PushResult {
             refusal: 0,
             queued: (n + 1) as u16,
         };
     }
-    Pushed {
+    PushResult {
         refusal: 5,
         queued: queued,
     }
@@ -70,32 +72,31 @@ impl Actions {
 
 // A pair for each of the actions, all with one context.
 pub(crate) fn push_all(
-    rules: &[u64],
-    ruled: u16,
-    queue: &mut [u64; 256],
-    sequences: &mut [u64; 520],
+    tables: &[u64; TableWords::WORDS],
+    queue: &mut [u64; Pair::QUEUE as usize],
+    sequences: &mut [u64; SequenceTracker::ALL],
     queued: u16,
     mode: u16,
     actions: Actions,
     context: Context,
-) -> Pushed
-    requires { ⌜ (length (now queue) ≡ 256) × (length (now sequences) ≡ 520) ⌝ }
+) -> PushResult
+    requires { ⌜ (length (now tables) ≡ 131) × (length (now queue) ≡ 256) × (length (now sequences) ≡ 520) ⌝ }
     ensures { λ _. ⌜ (length (now (queue .exit)) ≡ 256) × (length (now (sequences .exit)) ≡ 520) ⌝ }
-    ensures { λ r. ⌜ ((cs : List ClassEntry) (ms : List ModeEntry) (x : v.Context) (tr : List ℕ) → outcome (r .refusal) (shared (tables cs ms (rulesOf ruled (now (rules .entry)))) mode x (pairsOf (r .queued) (now (queue .exit))) tr (trackersOf (now (sequences .exit)))) ≡ key.pushAll (actionsBy actions) (contextOf context) (shared (tables cs ms (rulesOf ruled (now (rules .entry)))) mode x (pairsOf queued (now (queue .entry))) tr (trackersOf (now (sequences .entry))))) ⌝ }
+    ensures { λ r. ⌜ ((x : v.Context) (tr : List ℕ) → outcome (r .refusal) (shared (tablesIn (now (tables .entry))) mode x (pairsOf (r .queued) (now (queue .exit))) tr (trackersOf (now (sequences .exit)))) ≡ key.pushAll (actionsBy actions) (contextOf context) (shared (tablesIn (now (tables .entry))) mode x (pairsOf queued (now (queue .entry))) tr (trackersOf (now (sequences .entry))))) ⌝ }
 {
-    let n = number::least(actions.count, 4);
+    let n = number::least(actions.count, Step::ACTIONS as usize);
     let mut held = queued;
     let mut i = 0usize;
     while i < n {
         let pair = actions.pair(i, context);
-        let r = push(rules, ruled, queue, sequences, held, mode, pair);
+        let r = push(tables, queue, sequences, held, mode, pair);
         if r.refusal != 0 {
             return r;
         }
         held = r.queued;
         i = i + 1;
     }
-    Pushed {
+    PushResult {
         refusal: 0,
         queued: held,
     }

@@ -1,15 +1,18 @@
 // Sequence rules: a word for each, decoded when a pair is pushed.
 use crate::tracker;
+use crate::tracker::SequenceTracker;
 use crate::tracker::Status;
-use crate::word;
+use keyparts::graph::Graph;
 use keyparts::number;
+use keyparts::tables::TableWords;
 ghost use mathlib.Core.Path.{_≡_};
 ghost use mathlib.Core.Bool.{true};
 ghost use Prim.Native.Nat.{_<_};
 ghost use lib.ListN.{length};
 ghost use Rattle.rules.specs.Tables.{matches, ruleValid};
 ghost use Rattle.rules.specs.KeyLoop.{applyRule, applyRules};
-ghost use Rattle.keypairs.specs.View.{outcome, pairOf, trackersOf, ruleBy, ruleOf, rulesOf};
+ghost use Rattle.keyparts.specs.View.{outcome};
+ghost use Rattle.keypairs.specs.View.{pairOf, trackersOf, ruleBy, ruleOf, tablesIn};
 
 // The rule tells what the actions from `low` to `high` do to a sequence, in one mode.
 pub struct Rule {
@@ -21,15 +24,17 @@ pub struct Rule {
 }
 
 impl Rule {
+    pub const STATUSES: u16 = 5;
+
     pub(crate) fn unpack(w: u64) -> Rule
         ensures { λ r. ⌜ (ruleBy r ≡ ruleOf w) × (r .sequence < 8) ⌝ }
     {
         Rule {
-            mode: word::bits4(w),
+            mode: number::bits4(w),
             low: number::low(w / 1024),
             high: number::low(w / 67108864),
-            sequence: word::bits3(w / 16),
-            status: word::bits3(w / 128),
+            sequence: number::bits3(w / 16),
+            status: number::bits3(w / 128),
         }
     }
 
@@ -48,10 +53,10 @@ impl Rule {
     pub fn valid(self) -> bool
         ensures { λ r. ⌜ r ≡ ruleValid (ruleBy self) ⌝ }
     {
-        if self.mode < 16 {
+        if self.mode < Graph::ROOTS {
             if self.low <= self.high {
-                if self.sequence < 8 {
-                    return self.status < 5;
+                if self.sequence < SequenceTracker::SEQUENCES {
+                    return self.status < Rule::STATUSES;
                 }
             }
         }
@@ -77,8 +82,8 @@ fn apply_rule(word: u64, sequences: &mut [u64], mode: u16, w: u64) -> u16
 {
     let r = Rule::unpack(word);
     if r.matches(mode, number::low(w)) {
-        let start = (r.sequence as usize) * 65;
-        let end = start + 65;
+        let start = (r.sequence as usize) * SequenceTracker::WORDS;
+        let end = start + SequenceTracker::WORDS;
         return tracker::track(&mut sequences[start..end], Status::of(r.status), w);
     }
     0
@@ -86,16 +91,17 @@ fn apply_rule(word: u64, sequences: &mut [u64], mode: u16, w: u64) -> u16
 
 // All that match, in order, up to the first refusal.
 pub(crate) fn apply_rules(
-    rules: &[u64],
-    count: u16,
+    tables: &[u64; TableWords::WORDS],
     sequences: &mut [u64],
     mode: u16,
     w: u64,
 ) -> u16
-    requires { ⌜ length (now sequences) ≡ 520 ⌝ }
-    ensures { λ r. ⌜ outcome r (trackersOf (now (sequences .exit))) ≡ applyRules (rulesOf count (now (rules .entry))) mode (pairOf w) (trackersOf (now (sequences .entry))) ⌝ }
+    requires { ⌜ (length (now tables) ≡ 131) × (length (now sequences) ≡ 520) ⌝ }
+    ensures { λ r. ⌜ outcome r (trackersOf (now (sequences .exit))) ≡ applyRules (tablesIn (now (tables .entry)) .rules) mode (pairOf w) (trackersOf (now (sequences .entry))) ⌝ }
 {
-    let n = number::least(count, rules.len());
+    let all = &tables[..];
+    let rules = &all[TableWords::RULES_AT..TableWords::WORDS];
+    let n = number::least(number::low(all[2]), rules.len());
     let mut i = 0usize;
     while i < n {
         let e = apply_rule(rules[i], sequences, mode, w);

@@ -1,12 +1,15 @@
 // The tables that a machine is opened with. A caller fills them with any numbers, and `pack` tells whether they are in
 // range and makes the words that a machine keeps.
 use crate::rule::Rule;
-use crate::state::Sizes;
 use keyparts::class;
+use keyparts::event::EdgeEvent;
 use keyparts::node;
 use keyparts::number;
 use keyparts::step;
 use keyparts::step::Maybe;
+use keyparts::step::Step;
+use keyparts::tables::Sizes;
+use keyparts::tables::TableWords;
 ghost use mathlib.Core.Path.{_≡_};
 ghost use mathlib.Core.Bool.{true, false};
 ghost use mathlib.Core.List.{_∷_, [], map};
@@ -16,7 +19,7 @@ ghost use lib.ListN.{length, take};
 ghost use Rattle.rules.specs.Basics.{every, accept, unless};
 ghost use Rattle.rules.specs.Tables as t;
 ghost use Rattle.keyparts.specs.View.{fourOf, classesOf};
-ghost use Rattle.keypairs.specs.View.{actionsBy, wholeActions, entryBy, entryOf, wholeEntry, classBy, ruleBy, modesOf, rulesOf, wholeTables, wordsOf, packedBy};
+ghost use Rattle.keypairs.specs.View.{actionsBy, wholeActions, entryBy, entryOf, wholeEntry, classBy, ruleBy, modesOf, rulesOf, wholeTables, packedBy};
 
 pub struct ClassEntry {
     pub class: u16,
@@ -26,7 +29,7 @@ pub struct ClassEntry {
 
 // The first `count` actions are the list. A count over 4 is a list that every call refuses.
 pub struct Actions {
-    pub items: [u16; 4],
+    pub items: [u16; Step::ACTIONS as usize],
     pub count: u16,
 }
 
@@ -39,38 +42,29 @@ pub struct ModeEntry {
 
 // The sizes tell how many entries of each count. More than the arrays hold are tables that open refuses.
 pub struct Tables {
-    pub classes: [ClassEntry; 16],
-    pub modes: [ModeEntry; 16],
-    pub rules: [Rule; 64],
-    pub sizes: Sizes,
-}
-
-// Tables in words, as a machine keeps them.
-#[repr(C)]
-pub struct TableWords {
-    pub classes: [u64; 16],
-    pub modes: [u64; 48],
-    pub rules: [u64; 64],
+    pub classes: [ClassEntry; TableWords::CLASSES as usize],
+    pub modes: [ModeEntry; TableWords::MODES as usize],
+    pub rules: [Rule; TableWords::RULES as usize],
     pub sizes: Sizes,
 }
 
 // Were the entries in range? If so, the words are theirs.
-pub struct ClassWords {
+pub struct PackedClasses {
     pub valid: bool,
-    pub words: [u64; 16],
+    pub words: [u64; TableWords::CLASSES as usize],
 }
 
-pub struct ModeWords {
+pub struct PackedModes {
     pub valid: bool,
-    pub words: [u64; 48],
+    pub words: [u64; TableWords::MODE_WORDS],
 }
 
-pub struct RuleWords {
+pub struct PackedRules {
     pub valid: bool,
-    pub words: [u64; 64],
+    pub words: [u64; TableWords::RULES as usize],
 }
 
-pub struct Packed {
+pub struct PackResult {
     pub valid: bool,
     pub words: TableWords,
 }
@@ -86,7 +80,7 @@ impl ClassEntry {
     pub fn valid(self) -> bool
         ensures { λ r. ⌜ r ≡ t.classValid (classBy self) ⌝ }
     {
-        if self.class < 256 {
+        if self.class < EdgeEvent::CLASSES {
             return self.low <= self.high;
         }
         false
@@ -94,12 +88,10 @@ impl ClassEntry {
 }
 
 impl Actions {
-    pub const MOST: u16 = 4;
-
     pub fn valid(self) -> bool
         ensures { λ r. ⌜ r ≡ leb (length (wholeActions self)) 4 ⌝ }
     {
-        self.count <= Actions::MOST
+        self.count <= Step::ACTIONS
     }
 
     fn pack(self) -> u64
@@ -111,6 +103,21 @@ impl Actions {
 }
 
 impl ModeEntry {
+    // Empty lists and no next mode.
+    pub fn empty() -> ModeEntry
+        ensures { λ r. ⌜ entryBy r ≡ t.noEntry ⌝ }
+    {
+        let actions = Actions {
+            items: [0u16; Step::ACTIONS as usize],
+            count: 0,
+        };
+        ModeEntry {
+            enter: actions,
+            unmapped: actions,
+            next: Maybe::Nothing,
+        }
+    }
+
     pub fn valid(self) -> bool
         ensures { λ r. ⌜ r ≡ t.modeValid (wholeEntry self) ⌝ }
     {
@@ -142,18 +149,12 @@ impl ModeEntry {
 }
 
 impl Tables {
-    pub const CLASSES: u16 = 16;
-
-    pub const MODES: u16 = 16;
-
-    pub const RULES: u16 = 64;
-
     // No entry at all.
     pub fn empty() -> Tables
         ensures { λ r. ⌜ wholeTables r ≡ t.noTables ⌝ }
     {
         let actions = Actions {
-            items: [0u16; 4],
+            items: [0u16; Step::ACTIONS as usize],
             count: 0,
         };
         let class = ClassEntry {
@@ -174,9 +175,9 @@ impl Tables {
             status: 0,
         };
         Tables {
-            classes: [class; 16],
-            modes: [mode; 16],
-            rules: [rule; 64],
+            classes: [class; TableWords::CLASSES as usize],
+            modes: [mode; TableWords::MODES as usize],
+            rules: [rule; TableWords::RULES as usize],
             sizes: Sizes {
                 classes: 0,
                 modes: 0,
@@ -185,13 +186,13 @@ impl Tables {
         }
     }
 
-    fn pack_classes(self) -> ClassWords
+    fn pack_classes(self) -> PackedClasses
         requires { ⌜ self .sizes .classes ≤ 16 ⌝ }
         ensures { λ r. ⌜ r .valid ≡ every t.classValid (map classBy (take (self .sizes .classes) (self .classes))) ⌝ }
         ensures { λ r. ⌜ (r .valid ≡ true → classesOf (r .words) (self .sizes .classes) ≡ map classBy (take (self .sizes .classes) (self .classes))) ⌝ }
     {
         let n = self.sizes.classes as usize;
-        let mut words = [0u64; 16];
+        let mut words = [0u64; TableWords::CLASSES as usize];
         let mut i = 0usize;
         while i < n {
             let e = self.classes[i];
@@ -199,25 +200,25 @@ impl Tables {
                 words[i] = class::class_word(e.class, e.low, e.high);
                 i = i + 1;
             } else {
-                return ClassWords {
+                return PackedClasses {
                     valid: false,
                     words: words,
                 };
             }
         }
-        ClassWords {
+        PackedClasses {
             valid: true,
             words: words,
         }
     }
 
-    fn pack_modes(self) -> ModeWords
+    fn pack_modes(self) -> PackedModes
         requires { ⌜ self .sizes .modes ≤ 16 ⌝ }
         ensures { λ r. ⌜ r .valid ≡ every t.modeValid (map wholeEntry (take (self .sizes .modes) (self .modes))) ⌝ }
         ensures { λ r. ⌜ (r .valid ≡ true → modesOf (self .sizes .modes) (r .words) ≡ map wholeEntry (take (self .sizes .modes) (self .modes))) ⌝ }
     {
         let n = self.sizes.modes as usize;
-        let mut words = [0u64; 48];
+        let mut words = [0u64; TableWords::MODE_WORDS];
         let mut i = 0usize;
         while i < n {
             let e = self.modes[i];
@@ -228,25 +229,25 @@ impl Tables {
                 words[i * 3 + 2] = w.head;
                 i = i + 1;
             } else {
-                return ModeWords {
+                return PackedModes {
                     valid: false,
                     words: words,
                 };
             }
         }
-        ModeWords {
+        PackedModes {
             valid: true,
             words: words,
         }
     }
 
-    fn pack_rules(self) -> RuleWords
+    fn pack_rules(self) -> PackedRules
         requires { ⌜ self .sizes .rules ≤ 64 ⌝ }
         ensures { λ r. ⌜ r .valid ≡ every t.ruleValid (map ruleBy (take (self .sizes .rules) (self .rules))) ⌝ }
         ensures { λ r. ⌜ (r .valid ≡ true → rulesOf (self .sizes .rules) (r .words) ≡ map ruleBy (take (self .sizes .rules) (self .rules))) ⌝ }
     {
         let n = self.sizes.rules as usize;
-        let mut words = [0u64; 64];
+        let mut words = [0u64; TableWords::RULES as usize];
         let mut i = 0usize;
         while i < n {
             let e = self.rules[i];
@@ -254,84 +255,61 @@ impl Tables {
                 words[i] = e.pack();
                 i = i + 1;
             } else {
-                return RuleWords {
+                return PackedRules {
                     valid: false,
                     words: words,
                 };
             }
         }
-        RuleWords {
+        PackedRules {
             valid: true,
             words: words,
         }
     }
 
     // Are the tables in range? If so, the words are theirs.
-    pub fn pack(self) -> Packed
+    pub fn pack(self) -> PackResult
         ensures { λ r. ⌜ packedBy r ≡ unless (t.tablesValid (wholeTables self)) 1 (accept (wholeTables self)) ⌝ }
     {
         let z = self.sizes;
-        if Tables::CLASSES < z.classes {
-            return Packed::refused();
+        if TableWords::CLASSES < z.classes {
+            return PackResult::refused();
         }
         let c = self.pack_classes();
         if !c.valid {
-            return Packed::refused();
+            return PackResult::refused();
         }
-        if Tables::MODES < z.modes {
-            return Packed::refused();
+        if TableWords::MODES < z.modes {
+            return PackResult::refused();
         }
         let m = self.pack_modes();
         if !m.valid {
-            return Packed::refused();
+            return PackResult::refused();
         }
-        if Tables::RULES < z.rules {
-            return Packed::refused();
+        if TableWords::RULES < z.rules {
+            return PackResult::refused();
         }
         let r = self.pack_rules();
         if !r.valid {
-            return Packed::refused();
+            return PackResult::refused();
         }
         let classes = c.words;
         let modes = m.words;
         let rules = r.words;
-        Packed {
+        PackResult {
             valid: true,
-            words: TableWords {
-                classes: classes,
-                modes: modes,
-                rules: rules,
-                sizes: z,
-            },
+            words: TableWords::new(z, classes, modes, rules),
         }
     }
 }
 
-impl TableWords {
-    // No entry at all.
-    pub fn empty() -> TableWords
-        ensures { λ r. ⌜ wordsOf r ≡ t.noTables ⌝ }
-    {
-        TableWords {
-            classes: [0u64; 16],
-            modes: [0u64; 48],
-            rules: [0u64; 64],
-            sizes: Sizes {
-                classes: 0,
-                modes: 0,
-                rules: 0,
-            },
-        }
-    }
-}
-
-impl Packed {
+impl PackResult {
     // Out of range: no words.
-    fn refused() -> Packed
+    fn refused() -> PackResult
         ensures { λ r. ⌜ r .valid ≡ false ⌝ }
     {
         let words = TableWords::empty();
-        Packed {
+        PackResult {
             valid: false,
             words: words,
         }

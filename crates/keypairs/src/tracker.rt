@@ -10,8 +10,8 @@ ghost use Prim.Native.Nat.{_+_, _/_, _%_, _≤_, _<_, min};
 ghost use lib.ListN.{length, set};
 ghost use Rattle.rules.specs.Tables as t;
 ghost use Rattle.rules.specs.KeyLoop as key;
-ghost use Rattle.keyparts.specs.View.{answerOf};
-ghost use Rattle.keypairs.specs.View.{outcome, pairOf, pairBy, trackerOf, trackerBy, trackersOf, statusBy, broke, overOf, fetchedBy, fetchedAt, settledBy};
+ghost use Rattle.keyparts.specs.View.{outcome, settled, answerOf};
+ghost use Rattle.keypairs.specs.View.{pairOf, pairBy, trackerOf, trackerBy, trackersOf, statusBy, broke, overOf, fetchedBy, fetchedAt};
 
 pub enum Status {
     Atom,
@@ -77,7 +77,7 @@ fn track_on(block: &mut [u64], w: u64) -> u16
         put(block, 0, w, 2);
         return 0;
     }
-    if head < 128 {
+    if head < SequenceTracker::FULL {
         put(block, (head / 2) as usize, w, head + 2);
         return 0;
     }
@@ -110,7 +110,11 @@ pub(crate) fn track(block: &mut [u64], status: Status, w: u64) -> u16
 fn count_of(head: u64) -> u16
     ensures { λ r. ⌜ (r ≡ min (head / 2) 64) × (r ≤ 64) ⌝ }
 {
-    if head < 128 { (head / 2) as u16 } else { 64 }
+    if head < SequenceTracker::FULL {
+        (head / 2) as u16
+    } else {
+        SequenceTracker::PAIRS
+    }
 }
 
 // Each pair is overridden and stored again; the answer is their number.
@@ -137,9 +141,9 @@ fn break_each(sequences: &mut [u64])
     ensures { λ _. ⌜ trackersOf (now (sequences .exit)) ≡ map broke (trackersOf (now (sequences .entry))) ⌝ }
 {
     let mut i = 0usize;
-    while i < 8 {
-        let start = i * 65;
-        let end = start + 65;
+    while i < SequenceTracker::SEQUENCES as usize {
+        let start = i * SequenceTracker::WORDS;
+        let end = start + SequenceTracker::WORDS;
         break_off(&mut sequences[start..end]);
         i = i + 1;
     }
@@ -149,16 +153,16 @@ fn fetch_in(sequences: &mut [u64], sequence: u16, over: Override) -> u16
     requires { ⌜ length (now sequences) ≡ 520 ⌝ }
     ensures { λ r. ⌜ (trackersOf (now (sequences .exit)), r) ≡ fetchedAt sequence (overOf over) (trackersOf (now (sequences .entry))) ⌝ }
 {
-    if 8 <= sequence {
+    if SequenceTracker::SEQUENCES <= sequence {
         return 0;
     }
-    let start = (sequence as usize) * 65;
-    let end = start + 65;
+    let start = (sequence as usize) * SequenceTracker::WORDS;
+    let end = start + SequenceTracker::WORDS;
     fetch(&mut sequences[start..end], over)
 }
 
 // Every sequence is broken.
-pub fn break_all(sequences: &mut [u64; 520])
+pub fn break_all(sequences: &mut [u64; SequenceTracker::ALL])
     requires { ⌜ length (now sequences) ≡ 520 ⌝ }
     ensures { λ _. ⌜ length (now (sequences .exit)) ≡ 520 ⌝ }
     ensures { λ _. ⌜ trackersOf (now (sequences .exit)) ≡ map broke (trackersOf (now (sequences .entry))) ⌝ }
@@ -167,7 +171,7 @@ pub fn break_all(sequences: &mut [u64; 520])
 }
 
 // The sequence of the number is fetched. A number that no sequence has changes nothing, and the answer is 0.
-pub fn fetch_at(sequences: &mut [u64; 520], sequence: u16, over: Override) -> u16
+pub fn fetch_at(sequences: &mut [u64; SequenceTracker::ALL], sequence: u16, over: Override) -> u16
     requires { ⌜ length (now sequences) ≡ 520 ⌝ }
     ensures { λ _. ⌜ length (now (sequences .exit)) ≡ 520 ⌝ }
     ensures { λ r. ⌜ (trackersOf (now (sequences .exit)), r) ≡ fetchedAt sequence (overOf over) (trackersOf (now (sequences .entry))) ⌝ }
@@ -177,53 +181,66 @@ pub fn fetch_at(sequences: &mut [u64; 520], sequence: u16, over: Override) -> u1
 
 // A sequence by value, over the same functions.
 pub struct SequenceTracker {
-    pub words: [u64; 65],
+    pub words: [u64; SequenceTracker::WORDS],
 }
 
-pub struct Tracked {
+pub struct TrackResult {
     pub tracker: SequenceTracker,
     pub answer: Answer,
 }
 
 // The sequence with its pairs overridden, and how many they are.
-pub struct Fetched {
+pub struct FetchResult {
     pub tracker: SequenceTracker,
     pub answer: u16,
 }
 
 impl SequenceTracker {
+    // So many sequences are kept, with so many pairs each at most.
+    pub const SEQUENCES: u16 = 8;
+
     pub const PAIRS: u16 = 64;
+
+    // A head, and a word for each pair.
+    pub const WORDS: usize = 1 + SequenceTracker::PAIRS as usize;
+
+    pub const ALL: usize = SequenceTracker::SEQUENCES as usize * SequenceTracker::WORDS;
+
+    // The head of a sequence that is full and not broken.
+    const FULL: u64 = 2 * SequenceTracker::PAIRS as u64;
 
     pub fn fresh() -> SequenceTracker
         ensures { λ r. ⌜ trackerBy r ≡ key.noTracker ⌝ }
     {
-        SequenceTracker { words: [0u64; 65] }
+        SequenceTracker {
+            words: [0u64; SequenceTracker::WORDS],
+        }
     }
 
     // Refused, the tracker is the one before.
-    pub fn push(self, status: Status, pair: Pair) -> Tracked
-        ensures { λ r. ⌜ (trackerBy (r .tracker), answerOf (r .answer)) ≡ settledBy (trackerBy self) (key.track (statusBy status) (pairBy pair) (trackerBy self)) ⌝ }
+    pub fn push(self, status: Status, pair: Pair) -> TrackResult
+        ensures { λ r. ⌜ (trackerBy (r .tracker), answerOf (r .answer)) ≡ settled (trackerBy self) (key.track (statusBy status) (pairBy pair) (trackerBy self)) ⌝ }
     {
         let mut words = self.words;
         let e = track(&mut words, status, pair.pack());
         if e != 0 {
-            return Tracked {
+            return TrackResult {
                 tracker: self,
                 answer: Answer::Refused(e),
             };
         }
-        Tracked {
+        TrackResult {
             tracker: SequenceTracker { words: words },
             answer: Answer::Accepted,
         }
     }
 
-    pub fn fetch(self, over: Override) -> Fetched
+    pub fn fetch(self, over: Override) -> FetchResult
         ensures { λ r. ⌜ (trackerBy (r .tracker), r .answer) ≡ fetchedBy (overOf over) (trackerBy self) ⌝ }
     {
         let mut words = self.words;
         let n = fetch(&mut words, over);
-        Fetched {
+        FetchResult {
             tracker: SequenceTracker { words: words },
             answer: n,
         }

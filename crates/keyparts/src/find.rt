@@ -17,7 +17,13 @@ pub enum Found {
 }
 
 // The first node of the mode whose step has the action.
-pub(crate) fn find_node<'a>(heads: &'a [u64], acts: &'a [u64], count: u16, mode: u16, action: u16) -> Found
+pub(crate) fn find_node<'a>(
+    heads: &'a [u64],
+    acts: &'a [u64],
+    count: u16,
+    mode: u16,
+    action: u16,
+) -> Found
     ensures { λ r. ⌜ ((es : List g.Edge) → FindFits (graphBy (nodesOf (now (heads .entry)) (now (acts .entry)) count) es) mode action (foundOf r)) ⌝ }
 {
     if Graph::ROOTS <= mode {

@@ -19,7 +19,12 @@ pub enum FollowResult {
 }
 
 // Any, and else Fallthrough.
-fn follow_rest<'a>(edges: &'a [u64], count: u16, links: &'a [u16; Index::LINKS], node: u16) -> FollowResult
+fn follow_rest<'a>(
+    edges: &'a [u64],
+    count: u16,
+    links: &'a [u16; Index::LINKS],
+    node: u16,
+) -> FollowResult
     requires { ⌜ length (now links) ≡ 2304 ⌝ }
     ensures { λ r. ⌜ followOf r ≡ followMembers (linkedEnd (reached (now (edges .entry)) count) (now (links .entry)) node) 0 [] ⌝ }
 {

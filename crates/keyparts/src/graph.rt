@@ -3,10 +3,10 @@
 use crate::find;
 use crate::find::Found;
 use crate::follow::FollowResult;
+use crate::layout;
 use crate::node;
 use crate::node::Node;
 use crate::tables::TableWords;
-use crate::layout;
 ghost use mathlib.Core.Path.{_≡_};
 ghost use Rattle.rules.specs.Graph as g;
 ghost use Rattle.rules.specs.Calls.{HintFits, FindFits};

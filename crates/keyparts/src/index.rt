@@ -48,7 +48,12 @@ pub fn link(links: &mut [u16; Index::LINKS], place: usize, key: u64)
 }
 
 // The place of the edge with this key, or the number of edges. `left` ends the search on links that lead in a circle.
-pub(crate) fn linked_place<'a>(edges: &'a [u64], count: u16, links: &'a [u16; Index::LINKS], key: u64) -> usize
+pub(crate) fn linked_place<'a>(
+    edges: &'a [u64],
+    count: u16,
+    links: &'a [u16; Index::LINKS],
+    key: u64,
+) -> usize
     requires { ⌜ length (now links) ≡ 2304 ⌝ }
     ensures { λ r. ⌜ r ≡ linkedPlace (reached (now (edges .entry)) count) (now (links .entry)) key ⌝ }
 {

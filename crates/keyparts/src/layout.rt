@@ -112,7 +112,15 @@ pub fn follow_links<'a>(
     let edges = &all[0..HEADS];
     let each = &tables[..];
     let classes = &each[TableWords::CLASSES_AT..TableWords::MODES_AT];
-    follow::follow_edge(edges, count, links, classes, number::low(each[0]), node, key)
+    follow::follow_edge(
+        edges,
+        count,
+        links,
+        classes,
+        number::low(each[0]),
+        node,
+        key,
+    )
 }
 
 // One round of a key at a node.

@@ -1,9 +1,11 @@
-// Small numbers: the least of two, the low 16 bits, the upper part of an edge's word, its chain, and four actions in a word.
+// Small numbers: the least of two, parts of a word, the upper part of an edge's word, its chain, four actions in a word, and
+// the word at a place.
 use crate::graph::Graph;
 use crate::step::Step;
 ghost use mathlib.Core.Path.{_≡_};
 ghost use mathlib.Core.List.{[], _∷_};
 ghost use Prim.Native.Nat.{_+_, _*_, _<_, _%_, min};
+ghost use lib.ListN.{getD};
 ghost use Rattle.keyparts.specs.View.{fourOf, chainOf};
 
 // How many words of a table count: a count past its end is the whole table.
@@ -52,4 +54,27 @@ pub fn four_word(actions: [u16; Step::ACTIONS as usize]) -> u64
     ensures { λ r. ⌜ fourOf r ≡ actions ⌝ }
 {
     four(actions[0], actions[1], actions[2], actions[3])
+}
+
+// Parts of a word that tell how large they can be.
+pub fn bits3(w: u64) -> u16
+    ensures { λ r. ⌜ (r ≡ w % 8) × (r < 8) ⌝ }
+{
+    (w % 8) as u16
+}
+
+pub fn bits4(w: u64) -> u16
+    ensures { λ r. ⌜ (r ≡ w % 16) × (r < 16) ⌝ }
+{
+    (w % 16) as u16
+}
+
+// The word at a place, or 0 past the end.
+pub fn word_at(ws: &[u64], i: usize) -> u64
+    ensures { λ r. ⌜ r ≡ getD (now (ws .entry)) i 0 ⌝ }
+{
+    if i < ws.len() {
+        return ws[i];
+    }
+    0
 }

@@ -1,7 +1,7 @@
 -- The pushes stop at a refusal, and else the next mode is entered from what they left.
 use mathlib.Core.Path.{_≡_, refl, sym, ap, _∙_}
 use Rattle.keyparts.specs.View.{maybeOf}
-use Rattle.keypairs.specs.View.{tables, modesOf, rulesOf, actionsBy, contextOf, pairsOf, trackersOf}
+use Rattle.keypairs.specs.View.{tablesIn, actionsBy, contextOf, pairsOf, trackersOf}
 use Rattle.keypairs.proofs.Lists.{outcome-ok, outcome-no}
 use Rattle.keypairs.proofs.Modes.{give-goto-stop, give-goto-on}
 use borrow.Author.Needs.{needs}
@@ -18,26 +18,26 @@ push-all-requires : tie.Need-push-all-requires
 push-all-requires c κs = search needs
 
 returns : tie.Need-returns
-returns c = let a = c .before .before .before .before .before .before .before .before .before .before .before .before .args in let r = c .before .before .push-all in let t = c .before .before .before .before .before .before .before .take in let o = c .before .before .before .before .before .before .before .before .before .or-default in (
+returns c = let a = c .before .before .before .before .before .before .before .before .before .before .args in let r = c .before .before .push-all in let t = c .before .before .before .before .before .before .before .take in let o = c .before .before .before .before .before .before .before .before .before .or-default in (
   r .ensures .0,
-  λ cs g tr. outcome-no (r .result .refusal) _ (c .if1 .taken) ∙ give-goto-stop (tables cs (modesOf (a .sizes .modes) (a .modes .now)) (rulesOf (a .sizes .rules) (a .rules .now))) g (a .s .mode) (contextOf (a .s .context)) (contextOf (t .result .answer)) (contextOf (t .result .context))
+  λ g tr. outcome-no (r .result .refusal) _ (c .if1 .taken) ∙ give-goto-stop (tablesIn (a .tables .now)) g (a .s .mode) (contextOf (a .s .context)) (contextOf (t .result .answer)) (contextOf (t .result .context))
       (actionsBy (a .actions)) (actionsBy (o .result)) (maybeOf (a .next)) (pairsOf (a .s .queued) (a .queue .now)) tr (trackersOf (a .sequences .now)) (t .ensures) (o .ensures) (r .result .refusal)
-      (sym (outcome-no (r .result .refusal) _ (c .if1 .taken)) ∙ r .ensures .1 cs (modesOf (a .sizes .modes) (a .modes .now)) (contextOf (t .result .context)) tr),
+      (sym (outcome-no (r .result .refusal) _ (c .if1 .taken)) ∙ r .ensures .1 (contextOf (t .result .context)) tr),
 )
 
 next-or-requires : tie.Need-next-or-requires
 next-or-requires c κs = search needs
 
-goto-mode-requires : tie.Need-goto-mode-requires
-goto-mode-requires c κs = search needs
+goto-mode-or-scratch-requires : tie.Need-goto-mode-or-scratch-requires
+goto-mode-or-scratch-requires c κs = search needs
 
 returns-2 : tie.Need-returns-2
-returns-2 c = let a = c .before .before .before .before .before .before .before .before .before .before .before .before .before .before .before .before .args in let r = c .before .before .before .before .before .before .push-all in let t = c .before .before .before .before .before .before .before .before .before .before .before .take in let o = c .before .before .before .before .before .before .before .before .before .before .before .before .before .or-default in let w = c .goto-mode in (
+returns-2 c = let a = c .before .before .before .before .before .before .before .before .before .before .before .before .before .before .args in let r = c .before .before .before .before .before .before .push-all in let t = c .before .before .before .before .before .before .before .before .before .before .before .take in let o = c .before .before .before .before .before .before .before .before .before .before .before .before .before .or-default in let w = c .goto-mode-or-scratch in (
   w .ensures .0,
-  λ cs g tr. give-goto-on (tables cs (modesOf (a .sizes .modes) (a .modes .now)) (rulesOf (a .sizes .rules) (a .rules .now))) g (a .s .mode) (contextOf (a .s .context)) (contextOf (t .result .answer)) (contextOf (t .result .context))
-      (actionsBy (a .actions)) (actionsBy (o .result)) (maybeOf (a .next)) (pairsOf (a .s .queued) (a .queue .now)) tr (trackersOf (a .sequences .now)) (t .ensures) (o .ensures) _ (c .before .next-or .result) (pairsOf (r .result .queued) (r .last .1 .1 .0)) (trackersOf (r .last .1 .1 .1 .0))
-      (sym (outcome-ok (r .result .refusal) _ (c .before .before .before .before .if1 .left)) ∙ r .ensures .1 cs (modesOf (a .sizes .modes) (a .modes .now)) (contextOf (t .result .context)) tr)
-      (c .before .next-or .ensures) (w .ensures .1 cs g tr),
+  λ g tr. give-goto-on (tablesIn (a .tables .now)) g (a .s .mode) (contextOf (a .s .context)) (contextOf (t .result .answer)) (contextOf (t .result .context))
+      (actionsBy (a .actions)) (actionsBy (o .result)) (maybeOf (a .next)) (pairsOf (a .s .queued) (a .queue .now)) tr (trackersOf (a .sequences .now)) (t .ensures) (o .ensures) _ (c .before .next-or .result) (pairsOf (r .result .queued) (r .last .1 .0)) (trackersOf (r .last .1 .1 .0))
+      (sym (outcome-ok (r .result .refusal) _ (c .before .before .before .before .if1 .left)) ∙ r .ensures .1 (contextOf (t .result .context)) tr)
+      (c .before .next-or .ensures) (w .ensures .1 g tr),
 )
 
 pub give-goto-spec : {M : Type 1} → statement M
@@ -49,5 +49,5 @@ give-goto-spec =
     push-all-requires
     returns
     next-or-requires
-    goto-mode-requires
+    goto-mode-or-scratch-requires
     returns-2)

@@ -1,7 +1,8 @@
 -- The rules come first and may refuse; then the pair goes behind the queue unless it is full.
 use mathlib.Core.Path.{_≡_, refl, sym, ap, _∙_}
 use lib.ListN.{length, length-set}
-use Rattle.keypairs.specs.View.{trackersOf, rulesOf, tables, pairBy}
+use Rattle.keyparts.specs.View.{outcome}
+use Rattle.keypairs.specs.View.{trackersOf, tablesIn, pairBy}
 use Rattle.keypairs.proofs.Lists.{outcome-ok, outcome-no}
 use Rattle.keypairs.proofs.Pushes.{push-refused, push-room, push-full}
 use borrow.Author.Needs.{needs}
@@ -15,11 +16,14 @@ apply-rules-requires : tie.Need-apply-rules-requires
 apply-rules-requires c κs = search needs
 
 returns : tie.Need-returns
-returns c = let a = c .before .before .before .before .before .args in let e = c .before .apply-rules in let p = c .before .before .before .pack in (
-  (c .before .before .before .before .before .pre .0, e .kept .1 .1 .0 ∙ c .before .before .before .before .before .pre .1),
-  λ cs ms x tr. outcome-no (e .result) _ (c .if1 .taken) ∙ push-refused (tables cs ms (rulesOf (a .ruled) (a .rules .now))) x tr (a .mode) (p .result) (pairBy (a .pair)) (p .ensures) (a .queue .now) (a .queued) (trackersOf (a .sequences .now)) (e .result)
-      (sym (outcome-no (e .result) (trackersOf (e .last .1 .1 .0)) (c .if1 .taken)) ∙ e .ensures),
+returns c = let a = c .before .before .before .before .args in let e = c .before .apply-rules in let p = c .before .before .before .pack in (
+  (c .before .before .before .before .pre .1, e .kept .1 .0 ∙ c .before .before .before .before .pre .2),
+  λ x tr. outcome-no (e .result) _ (c .if1 .taken) ∙ push-refused (tablesIn (a .tables .now)) x tr (a .mode) (p .result) (pairBy (a .pair)) (p .ensures) (a .queue .now) (a .queued) (trackersOf (a .sequences .now)) (e .result)
+      (sym (outcome-no (e .result) (trackersOf (e .last .1 .0)) (c .if1 .taken)) ∙ e .ensures),
 )
+
+cast-if2 : tie.Need-cast-if2
+cast-if2 c = search needs
 
 mul-queue : tie.Need-mul-queue
 mul-queue c = search needs
@@ -34,17 +38,19 @@ cast-t17 : tie.Need-cast-t17
 cast-t17 c = search needs
 
 returns-2 : tie.Need-returns-2
-returns-2 c = let a = c .before .before .before .before .before .before .args in let e = c .before .before .apply-rules in let p = c .before .before .before .before .pack in (
-  (simp length-set (c .before .before .before .before .before .before .pre .0), e .kept .1 .1 .0 ∙ c .before .before .before .before .before .before .pre .1),
-  λ cs ms x tr. push-room (tables cs ms (rulesOf (a .ruled) (a .rules .now))) x tr (a .mode) (p .result) (pairBy (a .pair)) (p .ensures) (a .queue .now) (a .queued) (trackersOf (a .sequences .now)) (trackersOf (e .last .1 .1 .0)) (c .before .before .before .before .before .before .pre .0)
-      (sym (outcome-ok (e .result) (trackersOf (e .last .1 .1 .0)) (c .before .if1 .left)) ∙ e .ensures) (search needs),
+unfolding outcome
+returns-2 c = let a = c .before .before .before .before .before .args in let e = c .before .before .apply-rules in let p = c .before .before .before .before .pack in (
+  (simp length-set (c .before .before .before .before .before .pre .1), e .kept .1 .0 ∙ c .before .before .before .before .before .pre .2),
+  λ x tr. push-room (tablesIn (a .tables .now)) x tr (a .mode) (p .result) (pairBy (a .pair)) (p .ensures) (a .queue .now) (a .queued) (trackersOf (a .sequences .now)) (trackersOf (e .last .1 .0)) (c .before .before .before .before .before .pre .1)
+      (sym (outcome-ok (e .result) (trackersOf (e .last .1 .0)) (c .before .if1 .left)) ∙ e .ensures) (search needs),
 )
 
 returns-3 : tie.Need-returns-3
-returns-3 c = let a = c .before .before .before .before .before .before .args in let e = c .before .before .apply-rules in let p = c .before .before .before .before .pack in (
-  (c .before .before .before .before .before .before .pre .0, e .kept .1 .1 .0 ∙ c .before .before .before .before .before .before .pre .1),
-  λ cs ms x tr. push-full (tables cs ms (rulesOf (a .ruled) (a .rules .now))) x tr (a .mode) (p .result) (pairBy (a .pair)) (p .ensures) (a .queue .now) (a .queued) (trackersOf (a .sequences .now)) (trackersOf (e .last .1 .1 .0)) (c .before .before .before .before .before .before .pre .0)
-      (sym (outcome-ok (e .result) (trackersOf (e .last .1 .1 .0)) (c .before .if1 .left)) ∙ e .ensures) (search needs),
+unfolding outcome
+returns-3 c = let a = c .before .before .before .before .before .args in let e = c .before .before .apply-rules in let p = c .before .before .before .before .pack in (
+  (c .before .before .before .before .before .pre .1, e .kept .1 .0 ∙ c .before .before .before .before .before .pre .2),
+  λ x tr. push-full (tablesIn (a .tables .now)) x tr (a .mode) (p .result) (pairBy (a .pair)) (p .ensures) (a .queue .now) (a .queued) (trackersOf (a .sequences .now)) (trackersOf (e .last .1 .0)) (c .before .before .before .before .before .pre .1)
+      (sym (outcome-ok (e .result) (trackersOf (e .last .1 .0)) (c .before .if1 .left)) ∙ e .ensures) (search needs),
 )
 
 pub push-spec : {M : Type 1} → statement M
@@ -54,6 +60,7 @@ push-spec =
     pack-requires
     apply-rules-requires
     returns
+    cast-if2
     mul-queue
     element-write-queue
     add-t14

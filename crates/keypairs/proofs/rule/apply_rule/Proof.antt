@@ -7,6 +7,7 @@ use Rattle.rules.specs.Tables.{Rule, matches, statusOf}
 use Rattle.rules.specs.KeyLoop.{track}
 use Rattle.keypairs.specs.View.{pairOf, trackersOf, trackerOf, ruleOf, ruleBy, statusBy}
 use Rattle.keypairs.proofs.Sequences.{rule-in, rule-out, block, block-long}
+use Rattle.keyparts.specs.View.{outcome}
 use borrow.Author.Needs.{needs}
 use Rattle.keypairs.proofs.rule.apply_rule.Statement.{statement}
 use Rattle.keypairs.proofs.rule.apply_rule.Tie as tie
@@ -51,12 +52,14 @@ same-length : tie.Need-same-length
 same-length c = search needs
 
 returns : tie.Need-returns
+unfolding outcome
 returns c = let a = c .before .before .before .before .before .before .before .before .before .before .before .args in let u = c .before .before .before .before .before .before .before .before .before .unpack in let l = c .before .before .before .before .before .before .before .before .low in let m = c .before .before .before .before .before .before .before .matches in let q = u .result .sequence in
     let k : q * 65 + 65 - q * 65 ≡ 65 = omega arith in
     rule-in (a .sequences .now) q (c .before .before .before .before .before .before .before .before .before .before .before .pre) (u .ensures .1) (a .mode) (a .w) (a .word) (c .before .before .track .result) (q * 65 + 65 - q * 65) (c .before .before .track .last .0) (ruleBy (u .result)) (statusBy (c .before .before .before .of .result)) (l .result) (m .result)
     (u .ensures .0) (l .ensures) (m .ensures) (c .before .before .before .before .before .before .if1 .taken) refl (c .before .before .before .of .ensures) k (c .before .before .track .kept .0 ∙ rw k (block-long (a .sequences .now) q (c .before .before .before .before .before .before .before .before .before .before .before .pre) (u .ensures .1))) (c .before .before .track .ensures)
 
 returns-2 : tie.Need-returns-2
+unfolding outcome
 returns-2 c = let a = c .before .before .before .before .before .args in let u = c .before .before .before .unpack in let l = c .before .before .low in let m = c .before .matches in
     rule-out (a .mode) (a .w) (a .word) (trackersOf (a .sequences .now)) (ruleBy (u .result)) (l .result) (m .result) (u .ensures .0) (l .ensures) (m .ensures) (c .if1 .left)
 

@@ -20,6 +20,9 @@ abbrev μ-loop : tie.MeasureT-loop
 loop-holds : tie.Need-loop-holds Inv-loop μ-loop
 loop-holds c = (search needs, c .before .pre, refl)
 
+cast-loop : tie.Need-cast-loop Inv-loop μ-loop
+cast-loop c = search needs
+
 mul-start : tie.Need-mul-start Inv-loop μ-loop
 mul-start c = search needs
 
@@ -69,6 +72,7 @@ break-each-spec =
     Inv-loop
     μ-loop
     loop-holds
+    cast-loop
     mul-start
     add-end
     mul-break-off

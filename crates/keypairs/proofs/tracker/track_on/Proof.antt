@@ -1,6 +1,7 @@
 -- The head tells whether the sequence is broken and whether it is full.
 use mathlib.Core.Path.{_≡_, refl}
 use Rattle.keypairs.proofs.Sequences.{track-anew, track-more, track-full}
+use Rattle.keyparts.specs.View.{outcome}
 use borrow.Author.Needs.{needs}
 use Rattle.keypairs.proofs.tracker.track_on.Statement.{statement}
 use Rattle.keypairs.proofs.tracker.track_on.Tie as tie
@@ -15,6 +16,7 @@ same-length : tie.Need-same-length
 same-length c = search needs
 
 returns : tie.Need-returns
+unfolding outcome
 returns c = let a = c .before .before .before .before .before .before .before .args in track-anew (a .block .now) (a .w) (c .before .before .before .before .before .before .before .pre) (c .before .before .put .last .0) (c .before .before .before .before .if1 .taken) (c .before .before .put .ensures)
 
 add-put : tie.Need-add-put
@@ -27,9 +29,11 @@ same-length-2 : tie.Need-same-length-2
 same-length-2 c = search needs
 
 returns-2 : tie.Need-returns-2
+unfolding outcome
 returns-2 c = let a = c .before .before .before .before .before .before .before .before .args in track-more (a .block .now) (a .w) (c .before .before .before .before .before .before .before .before .pre) _ refl (c .before .before .before .before .before .if1 .left) (c .before .before .put2 .last .0) (c .before .before .before .before .if2 .taken) (c .before .before .put2 .ensures)
 
 returns-3 : tie.Need-returns-3
+unfolding outcome
 returns-3 c = let a = c .before .before .before .before .args in track-full (a .block .now) (a .w) (c .before .before .before .before .pre) _ refl (c .before .if1 .left) (c .if2 .left)
 
 pub track-on-spec : {M : Type 1} → statement M

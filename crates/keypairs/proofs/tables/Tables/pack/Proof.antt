@@ -5,7 +5,7 @@ use lib.ListN.{length}
 use borrow.Author.Tests.{not-true, not-false}
 use Rattle.keyparts.proofs.Ranges.{length-mapped}
 use Rattle.keypairs.specs.View.{wholeTables}
-use Rattle.keypairs.proofs.Packs.{never, over-classes, bad-classes, over-modes, bad-modes, over-rules, rules-too, all-words, packed}
+use Rattle.keypairs.proofs.Packs.{never, over-classes, bad-classes, over-modes, bad-modes, over-rules, rules-too, all-words, tables-from, packed}
 use borrow.Author.Needs.{needs}
 use Rattle.keypairs.proofs.tables.Tables.pack.Statement.{statement}
 use Rattle.keypairs.proofs.tables.Tables.pack.Tie as tie
@@ -64,12 +64,16 @@ returns-6 : tie.Need-returns-6
 returns-6 c = let n = lengths (c .before .before .before .before .before .before .before .before .before .before .before .before .before .before .before .before) in let x = c .before .before .before .before .before .before .before .before .before .before .before .before .before .before .before .before .before .args .self in
     packed _ (wholeTables x) _ _ (c .refused6 .ensures ∙ sym (not-true _ (c .before .if6 .taken)) ∙ c .before .before .before .pack-rules .ensures .0 ∙ rules-too x (n .0) (n .1) (n .2) (c .before .before .before .before .before .before .before .before .before .before .before .before .before .before .if1 .left) (sym (c .before .before .before .before .before .before .before .before .before .before .before .before .before .pack-classes .ensures .0) ∙ not-false _ (c .before .before .before .before .before .before .before .before .before .before .before .if2 .left)) (c .before .before .before .before .before .before .before .before .before .if3 .left) (sym (c .before .before .before .before .before .before .before .before .pack-modes .ensures .0) ∙ not-false _ (c .before .before .before .before .before .before .if4 .left)) (c .before .before .before .before .if5 .left)) (never _ (c .refused6 .ensures))
 
+new-requires : tie.Need-new-requires
+new-requires c κs = search needs
+
 returns-7 : tie.Need-returns-7
-returns-7 c = let n = lengths (c .before .before .before .before .before .before .before .before .before .before .before .before .before .before .before .before .before .before) in let x = c .before .before .before .before .before .before .before .before .before .before .before .before .before .before .before .before .before .before .before .args .self in
-    let v = not-false _ (c .before .before .before .if6 .left) in
+returns-7 c = let n = lengths (c .before .before .before .before .before .before .before .before .before .before .before .before .before .before .before .before .before .before .before) in let x = c .before .before .before .before .before .before .before .before .before .before .before .before .before .before .before .before .before .before .before .before .args .self in
+    let v = not-false _ (c .before .before .before .before .if6 .left) in
     packed _ (wholeTables x) _ _
-    (sym v ∙ c .before .before .before .before .before .pack-rules .ensures .0 ∙ rules-too x (n .0) (n .1) (n .2) (c .before .before .before .before .before .before .before .before .before .before .before .before .before .before .before .before .if1 .left) (sym (c .before .before .before .before .before .before .before .before .before .before .before .before .before .before .before .pack-classes .ensures .0) ∙ not-false _ (c .before .before .before .before .before .before .before .before .before .before .before .before .before .if2 .left)) (c .before .before .before .before .before .before .before .before .before .before .before .if3 .left) (sym (c .before .before .before .before .before .before .before .before .before .before .pack-modes .ensures .0) ∙ not-false _ (c .before .before .before .before .before .before .before .before .if4 .left)) (c .before .before .before .before .before .before .if5 .left))
-    (λ t. all-words x (n .0) (n .1) (n .2) (c .before .before .before .before .before .before .before .before .before .before .before .before .before .before .before .before .if1 .left) (sym (c .before .before .before .before .before .before .before .before .before .before .before .before .before .before .before .pack-classes .ensures .0) ∙ not-false _ (c .before .before .before .before .before .before .before .before .before .before .before .before .before .if2 .left)) (c .before .before .before .before .before .before .before .before .before .before .before .if3 .left) (sym (c .before .before .before .before .before .before .before .before .before .before .pack-modes .ensures .0) ∙ not-false _ (c .before .before .before .before .before .before .before .before .if4 .left)) (c .before .before .before .before .before .before .if5 .left) (c .before .before .before .before .before .before .before .before .before .before .before .before .before .before .before .pack-classes .result .words) (c .before .before .before .before .before .before .before .before .before .before .pack-modes .result .words) (c .before .before .before .before .before .pack-rules .result .words) (c .before .before .before .before .before .before .before .before .before .before .before .before .before .before .before .pack-classes .ensures .1 (not-false _ (c .before .before .before .before .before .before .before .before .before .before .before .before .before .if2 .left))) (c .before .before .before .before .before .before .before .before .before .before .pack-modes .ensures .1 (not-false _ (c .before .before .before .before .before .before .before .before .if4 .left))) (c .before .before .before .before .before .pack-rules .ensures .1 v))
+    (sym v ∙ c .before .before .before .before .before .before .pack-rules .ensures .0 ∙ rules-too x (n .0) (n .1) (n .2) (c .before .before .before .before .before .before .before .before .before .before .before .before .before .before .before .before .before .if1 .left) (sym (c .before .before .before .before .before .before .before .before .before .before .before .before .before .before .before .before .pack-classes .ensures .0) ∙ not-false _ (c .before .before .before .before .before .before .before .before .before .before .before .before .before .before .if2 .left)) (c .before .before .before .before .before .before .before .before .before .before .before .before .if3 .left) (sym (c .before .before .before .before .before .before .before .before .before .before .before .pack-modes .ensures .0) ∙ not-false _ (c .before .before .before .before .before .before .before .before .before .if4 .left)) (c .before .before .before .before .before .before .before .if5 .left))
+    (λ t. tables-from (c .new .result .words) (x .sizes) (c .before .before .before .before .before .before .before .before .before .before .before .before .before .before .before .before .pack-classes .result .words) (c .before .before .before .before .before .before .before .before .before .before .before .pack-modes .result .words) (c .before .before .before .before .before .before .pack-rules .result .words) (c .new .ensures .0) (c .new .ensures .1) (c .new .ensures .2) (c .new .ensures .3)
+    ∙ all-words x (n .0) (n .1) (n .2) (c .before .before .before .before .before .before .before .before .before .before .before .before .before .before .before .before .before .if1 .left) (sym (c .before .before .before .before .before .before .before .before .before .before .before .before .before .before .before .before .pack-classes .ensures .0) ∙ not-false _ (c .before .before .before .before .before .before .before .before .before .before .before .before .before .before .if2 .left)) (c .before .before .before .before .before .before .before .before .before .before .before .before .if3 .left) (sym (c .before .before .before .before .before .before .before .before .before .before .before .pack-modes .ensures .0) ∙ not-false _ (c .before .before .before .before .before .before .before .before .before .if4 .left)) (c .before .before .before .before .before .before .before .if5 .left) (c .before .before .before .before .before .before .before .before .before .before .before .before .before .before .before .before .pack-classes .result .words) (c .before .before .before .before .before .before .before .before .before .before .before .pack-modes .result .words) (c .before .before .before .before .before .before .pack-rules .result .words) (c .before .before .before .before .before .before .before .before .before .before .before .before .before .before .before .before .pack-classes .ensures .1 (not-false _ (c .before .before .before .before .before .before .before .before .before .before .before .before .before .before .if2 .left))) (c .before .before .before .before .before .before .before .before .before .before .before .pack-modes .ensures .1 (not-false _ (c .before .before .before .before .before .before .before .before .before .if4 .left))) (c .before .before .before .before .before .before .pack-rules .ensures .1 v))
 
 pub pack-spec : {M : Type 1} → statement M
 pack-spec =
@@ -90,4 +94,5 @@ pack-spec =
     pack-rules-requires
     refused-requires-6
     returns-6
+    new-requires
     returns-7)

@@ -2,8 +2,8 @@
 use mathlib.Core.Path.{_≡_, refl, sym}
 use lib.ListN.{List·getD-eq-default}
 use borrow.Author.Needs.{needs}
-use Rattle.keypairs.proofs.word.word_at.Statement.{statement}
-use Rattle.keypairs.proofs.word.word_at.Tie as tie
+use Rattle.keyparts.proofs.number.word_at.Statement.{statement}
+use Rattle.keyparts.proofs.number.word_at.Tie as tie
 
 mul-result : tie.Need-mul-result
 mul-result c = search needs
