@@ -8,15 +8,14 @@ use Rattle.rules.specs.Tables as t
 use Rattle.rules.specs.KeyLoop as key
 use Rattle.rules.specs.Calls as c
 use Rattle.rules.specs.Graph as g
-use Rattle.keyparts.specs.View.{stepOf, reached, followLinks, edgeWords}
-use Rattle.keygraph.specs.declared.graph.Counts.{Counts}
-use Rattle.keygraph.specs.View.{graphIn}
+use Rattle.keyparts.specs.View.{outcome, stepOf, graphIn, reached, followLinks, edgeWords}
+use Rattle.keyparts.specs.declared.graph.Counts.{Counts}
 use Rattle.keypairs.specs.declared.state.State.{State}
-use Rattle.keypairs.specs.View.{outcome, sharedOf, stateOf}
+use Rattle.keypairs.specs.View.{sharedOf, stateOf}
 use Rattle.keyloop.specs.declared.turn.InputResult.{InputResult}
 use Rattle.keyloop.specs.declared.turn.InputResult.the-variants.{Again, ClearTrail, Consumed, NeedMore, Unmapped, RunStep, RetryAfter}
-use Rattle.keyloop.specs.declared.turn.Turned.{Turned}
-use Rattle.keyloop.specs.declared.key.Handled.{Handled}
+use Rattle.keyloop.specs.declared.turn.TurnResult.{TurnResult}
+use Rattle.keyloop.specs.declared.key.InputKeyResult.{InputKeyResult}
 
 -- ---- a round
 
@@ -38,11 +37,11 @@ resultBy RunStep s = key.RunStep s
 resultBy RetryAfter s = key.RetryAfter s
 
 -- a round that comes to x leaves r: what is to be done, and the state after the event hook
-pub record Turns (x : key.Turn ℕ) (k : ℕ) (s : State) (r : Turned) : Type 0 where
+pub record Turns (x : key.Turn ℕ) (k : ℕ) (s : State) (r : TurnResult) : Type 0 where
   pub result : resultBy (r .result) (stepOf (r .step)) ≡ x .result
   pub state : (t : t.Tables) (q sq tr : List ℕ) → stateOf (r .state) t q sq tr ≡ key.at (x .place) (key.runHook (x .event) k (sharedOf s t q sq tr))
 
 -- ---- a key
 
-abbrev pub keyOf : Handled → t.Tables → List ℕ → List ℕ → List ℕ → key.KeyResult ℕ
-keyOf r t q sq tr = record { rounds = r .rounds; result = outcome (r .refusal) (stateOf (r .state) t q sq (take (r .trailed) tr)) }
+abbrev pub keyOf : InputKeyResult → t.Tables → List ℕ → List ℕ → List ℕ → key.KeyResult ℕ
+keyOf r t q sq tr = record { rounds = r .rounds; result = outcome (r .refusal) (stateOf (r .state) t q sq (take (r .state .trailed) tr)) }

@@ -20,6 +20,9 @@ pub struct State {
 }
 
 impl State {
+    // So many keys are on the trail at most.
+    pub const TRAIL: u16 = 64;
+
     // Mode 0 and its root, with nothing gathered, queued or on the trail.
     pub fn fresh() -> State
         ensures { λ r. ⌜ r ≡ record { place = 0; mode = 0; context = record { count = 0; mark = 0 }; queued = 0; trailed = 0 } ⌝ }

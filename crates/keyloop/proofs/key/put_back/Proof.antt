@@ -4,7 +4,7 @@ use mathlib.Core.Path.{_≡_, refl, sym, ap, _∙_}
 use native.Mathlib.Omega.{arith}
 use lib.ListN.{length, take, drop, getD, length-set}
 use lib.Seq.{paste, paste-zero}
-use Rattle.keyloop.proofs.Lists.{paste-turn}
+use Rattle.keyparts.proofs.Copies.{paste-turn}
 use Rattle.keyloop.proofs.Stack.{back-length, back-is}
 use borrow.Author.Needs.{needs}
 use Rattle.keyloop.proofs.key.put_back.Statement.{statement}

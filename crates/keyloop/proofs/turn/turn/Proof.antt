@@ -1,7 +1,6 @@
 -- The three ways of following are the clauses of `turnBy`, and the node that was come to tells the rest.
 use mathlib.Core.Path.{_≡_, refl, sym, ap, _∙_}
-use Rattle.keyparts.specs.View.{nodeOf, eventOf, followOf, nodesOf, edgesOf, classesOf, reached, followLinks, edgeWords, headWords, actWords}
-use Rattle.keygraph.specs.View.{graphIn}
+use Rattle.keyparts.specs.View.{nodeOf, eventOf, followOf, nodesOf, edgesOf, classesIn, reached, followLinks, edgeWords, headWords, actWords, graphIn}
 use Rattle.keypairs.specs.View.{sharedOf, contextOf}
 use Rattle.keyloop.specs.View.{resultBy}
 use Rattle.keyloop.proofs.Rounds.{by-result, by-state, falls-result, falls-state, stuck-result, stuck-state}
@@ -9,35 +8,8 @@ use borrow.Author.Needs.{needs}
 use Rattle.keyloop.proofs.turn.turn.Statement.{statement}
 use Rattle.keyloop.proofs.turn.turn.Tie as tie
 
-sub-edges : tie.Need-sub-edges
-sub-edges c = search needs
-
-part-edges-start : tie.Need-part-edges-start
-part-edges-start c = search needs
-
-part-edges-end : tie.Need-part-edges-end
-part-edges-end c = search needs
-
-sub-heads : tie.Need-sub-heads
-sub-heads c = search needs
-
-part-heads-start : tie.Need-part-heads-start
-part-heads-start c = search needs
-
-part-heads-end : tie.Need-part-heads-end
-part-heads-end c = search needs
-
-sub-acts : tie.Need-sub-acts
-sub-acts c = search needs
-
-part-acts-start : tie.Need-part-acts-start
-part-acts-start c = search needs
-
-part-acts-end : tie.Need-part-acts-end
-part-acts-end c = search needs
-
-follow-edge-requires : tie.Need-follow-edge-requires
-follow-edge-requires c κs = search needs
+follow-links-requires : tie.Need-follow-links-requires
+follow-links-requires c κs = search needs
 
 enum-known-f : tie.Need-enum-known-f
 enum-known-f c = search needs
@@ -52,10 +24,9 @@ event-requires : tie.Need-event-requires
 event-requires c κs = search needs
 
 returns : tie.Need-returns
-unfolding edgeWords headWords actWords
-returns c = let a = c .before .before .before .before .before .before .before .before .before .before .before .before .before .before .args in let g = graphIn (a .words .now) (a .counts) in let ns = nodesOf (headWords (a .words .now)) (actWords (a .words .now)) (a .counts .nodes) in
-    let f = followLinks (classesOf (a .classes .now) (a .entries)) (reached (edgeWords (a .words .now)) (a .counts .edges)) (a .links .now) (a .s .place) (a .key) in
-    let e = sym (ap followOf (c .before .before .before .before .before .before .f .given .1)) ∙ c .before .before .before .before .before .before .before .before .follow-edge .ensures in
+returns c = let a = c .before .before .before .before .before .before .before .before .before .args in let g = graphIn (a .words .now) (a .counts) in let ns = nodesOf (headWords (a .words .now)) (actWords (a .words .now)) (a .counts .nodes) in
+    let f = followLinks (classesIn (a .tables .now)) (reached (edgeWords (a .words .now)) (a .counts .edges)) (a .links .now) (a .s .place) (a .key) in
+    let e = sym (ap followOf (c .before .before .before .before .before .before .f .given .1)) ∙ c .before .before .before .before .before .before .before .before .follow-links .ensures in
     record {
       result = by-result g (a .s .place) f (eventOf (c .before .before .before .before .before .before .f .given .0 .0)) (c .before .before .before .before .before .before .f .given .0 .1 .0) e _ (nodeOf (c .before .before .before .before .node-at .result)) (c .before .before .before .before .node-at .ensures (edgesOf (edgeWords (a .words .now)) (a .counts .edges))) (c .before .before .before .arrive .ensures ns (eventOf (c .before .before .before .before .before .before .f .given .0 .0)));
       state = λ t q sq tr. by-state g (a .s .place) f (eventOf (c .before .before .before .before .before .before .f .given .0 .0)) (c .before .before .before .before .before .before .f .given .0 .1 .0) e (a .key) (contextOf (c .event .result)) (sharedOf (a .s) t q sq tr) (c .event .ensures);
@@ -71,13 +42,12 @@ land-requires : tie.Need-land-requires
 land-requires c κs = search needs
 
 returns-2 : tie.Need-returns-2
-unfolding edgeWords headWords actWords
-returns-2 c = let a = c .before .before .before .before .before .before .before .before .before .before .before .before .before .args in let g = graphIn (a .words .now) (a .counts) in let ns = nodesOf (headWords (a .words .now)) (actWords (a .words .now)) (a .counts .nodes) in
-    let f = followLinks (classesOf (a .classes .now) (a .entries)) (reached (edgeWords (a .words .now)) (a .counts .edges)) (a .links .now) (a .s .place) (a .key) in
-    let e = sym (ap followOf (c .before .before .before .before .before .f2 .given .1)) ∙ c .before .before .before .before .before .before .before .follow-edge .ensures in
+returns-2 c = let a = c .before .before .before .before .before .before .before .args in let g = graphIn (a .words .now) (a .counts) in let ns = nodesOf (headWords (a .words .now)) (actWords (a .words .now)) (a .counts .nodes) in
+    let f = followLinks (classesIn (a .tables .now)) (reached (edgeWords (a .words .now)) (a .counts .edges)) (a .links .now) (a .s .place) (a .key) in
+    let e = sym (ap followOf (c .before .before .before .before .f2 .given .1)) ∙ c .before .before .before .before .before .before .follow-links .ensures in
     record {
-      result = falls-result g (a .s .place) f (c .before .before .before .before .before .f2 .given .0 .0) e _ (nodeOf (c .before .before .before .node-at2 .result)) (c .before .before .before .node-at2 .ensures (edgesOf (edgeWords (a .words .now)) (a .counts .edges))) (c .before .before .land .ensures);
-      state = λ t q sq tr. falls-state g (a .s .place) f (c .before .before .before .before .before .f2 .given .0 .0) e (a .key) (sharedOf (a .s) t q sq tr);
+      result = falls-result g (a .s .place) f (c .before .before .before .before .f2 .given .0 .0) e _ (nodeOf (c .before .before .node-at2 .result)) (c .before .before .node-at2 .ensures (edgesOf (edgeWords (a .words .now)) (a .counts .edges))) (c .before .land .ensures);
+      state = λ t q sq tr. falls-state g (a .s .place) f (c .before .before .before .before .f2 .given .0 .0) e (a .key) (sharedOf (a .s) t q sq tr);
     }
 
 enum-told : tie.Need-enum-told
@@ -87,10 +57,9 @@ default-requires : tie.Need-default-requires
 default-requires c κs = search needs
 
 returns-3 : tie.Need-returns-3
-unfolding edgeWords headWords actWords
-returns-3 c = let a = c .before .before .before .before .before .before .before .before .before .args in let g = graphIn (a .words .now) (a .counts) in let ns = nodesOf (headWords (a .words .now)) (actWords (a .words .now)) (a .counts .nodes) in
-    let f = followLinks (classesOf (a .classes .now) (a .entries)) (reached (edgeWords (a .words .now)) (a .counts .edges)) (a .links .now) (a .s .place) (a .key) in
-    let e = sym (ap followOf (c .before .enum-told .given .1)) ∙ c .before .before .before .follow-edge .ensures in
+returns-3 c = let a = c .before .before .before .before .args in let g = graphIn (a .words .now) (a .counts) in let ns = nodesOf (headWords (a .words .now)) (actWords (a .words .now)) (a .counts .nodes) in
+    let f = followLinks (classesIn (a .tables .now)) (reached (edgeWords (a .words .now)) (a .counts .edges)) (a .links .now) (a .s .place) (a .key) in
+    let e = sym (ap followOf (c .before .enum-told .given .1)) ∙ c .before .before .before .follow-links .ensures in
     record {
       result = stuck-result g (a .s .place) f e;
       state = λ t q sq tr. stuck-state g (a .s .place) f e (a .key) (sharedOf (a .s) t q sq tr);
@@ -100,16 +69,7 @@ pub turn-spec : {M : Type 1} → statement M
 turn-spec =
     tie.close
     (tie.spec
-    sub-edges
-    part-edges-start
-    part-edges-end
-    sub-heads
-    part-heads-start
-    part-heads-end
-    sub-acts
-    part-acts-start
-    part-acts-end
-    follow-edge-requires
+    follow-links-requires
     enum-known-f
     node-at-requires
     arrive-requires
