@@ -2,10 +2,11 @@
 use Prim.Native.Nat.{ℕ, zero, suc}
 use mathlib.Core.Path.{_≡_, refl, ap, _∙_}
 use Rattle.rules.specs.Basics.{Result, accept, refuse, _>>=_}
-use Rattle.keygraph.specs.Making.{Leads, Makes, resultOf}
+use Rattle.keyparts.specs.View.{outcome}
+use Rattle.keygraph.specs.Making.{Leads, Makes}
 
-pub refused : {A : Type 0} (n : ℕ) (a : A) → (n ≡ 0 → ⊥) → resultOf n a ≡ refuse n
-unfolding resultOf
+pub refused : {A : Type 0} (n : ℕ) (a : A) → (n ≡ 0 → ⊥) → outcome n a ≡ refuse n
+unfolding outcome
 refused zero a h = absurd (h refl)
 refused (suc n) a h = refl
 

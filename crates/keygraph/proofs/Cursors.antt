@@ -1,5 +1,5 @@
 -- Cursors: what one call comes to, in the words of the rules, and the loops of repeats.
-use Prim.Native.Nat.{ℕ, zero, suc, _<_, min}
+use Prim.Native.Nat.{ℕ, zero, suc, _<_, _≤_, min}
 use mathlib.Core.Path.{_≡_, refl, sym, ap, _∙_}
 use mathlib.Core.Bool.{Bool, true, false, _&&_}
 use mathlib.Core.List.{List, [], _∷_, _++_, map, map-append}
@@ -11,65 +11,66 @@ use borrow.Author.Tests.{ne-eqb}
 use mathlib.Core.Option.{Option, none, some}
 use Rattle.rules.specs.Basics.{if_then_else_, Result, accept, refuse, _>>=_}
 use Rattle.rules.specs.Values.{Event, Fallthrough, Min, Max, Part, Step}
-use Rattle.rules.specs.Graph.{Graph, Node, Cursor, cursor, NodeAction, Empty, addNode, addEdge, upsertNode, upsertAt, getEdge, settle, edgeBetween, edgeTo, nodeFor, addSimpleStep, addSimples, addOptionals, addMin, addMax, addRepeat, addIntermediate, actionOf, mapPath, prefixLast, prefixPath}
-use Rattle.keygraph.specs.Making.{Leads, Makes, resultOf, outcome, cursorIn, settledAt, upsertedAt, upserted, paid, addParts, minTo, minOn}
+use Rattle.rules.specs.Graph.{Graph, Node, Cursor, cursor, NodeAction, Empty, addNode, addEdge, upsertNode, upsertAt, getEdge, settle, edgeBetween, edgeTo, nodeFor, addSimpleStep, addSimples, addOptionals, addMin, addMax, addRepeat, addIntermediate, actionOf, mapFall, mapPath, prefixLast, prefixPath}
+use Rattle.keygraph.specs.Making.{Leads, Makes, cameTo, cursorIn, edgesIn, settledAt, upsertedAt, upserted, paid, addTimes, addParts, minTo, minOn}
 use Rattle.keygraph.specs.declared.cursor.Cursor as C
-use Rattle.keyparts.specs.View.{eventAt, graphBy, edgesOf, nodesOf, edgeWords, headWords, actWords}
-use Rattle.keygraph.specs.View.{graphIn}
-use Rattle.keygraph.specs.declared.graph.Counts.{Counts}
+use Rattle.keyparts.specs.View.{eventAt, graphBy, edgesOf, nodesOf, edgeWords, headWords, actWords, outcome, graphIn, find, keyIs, reached, linkedPlace, linkedEnd, Indexed}
+use Rattle.keyparts.specs.declared.graph.Counts.{Counts}
 use Rattle.keyparts.proofs.Words.{event-fall, take-min}
+use Rattle.keyparts.proofs.Places.{edges-length}
+use Rattle.keyparts.proofs.Links.{reached-place, reached-end}
 use Rattle.keygraph.proofs.Binds.{then as next, with, bind-assoc, leads-as}
 
 -- ---- one call: n is the refusal's number of the cursor, and a the cursor itself
 module _ {A B : Type 0} (n : ℕ) (a : A) where
   -- the cursor is not refused
-  pub starts : {f : A → Result B} {y : Result B} → n ≡ 0 → y ≡ f a → Leads (resultOf n a) f y
-  unfolding resultOf
+  pub starts : {f : A → Result B} {y : Result B} → n ≡ 0 → y ≡ f a → Leads (outcome n a) f y
+  unfolding outcome
   starts h e = record { is = rw h e }
 
-  pub starts-made : {f : A → Result (B × ℕ)} {y : Result B} {k : ℕ} → n ≡ 0 → (y >>= (λ b. accept (b, k))) ≡ f a → Makes (resultOf n a) f y k
-  unfolding resultOf
+  pub starts-made : {f : A → Result (B × ℕ)} {y : Result B} {k : ℕ} → n ≡ 0 → (y >>= (λ b. accept (b, k))) ≡ f a → Makes (outcome n a) f y k
+  unfolding outcome
   starts-made h e = record { is = rw h e }
 
   -- it is
-  pub stays : {f : A → Result B} (b : B) → (n ≡ 0 → ⊥) → Leads (resultOf n a) f (resultOf n b)
-  unfolding resultOf
+  pub stays : {f : A → Result B} (b : B) → (n ≡ 0 → ⊥) → Leads (outcome n a) f (outcome n b)
+  unfolding outcome
   stays {f} b h = record { is = go n h }
     where
-      go : (n : ℕ) → (n ≡ 0 → ⊥) → resultOf n b ≡ resultOf n a >>= f
+      go : (n : ℕ) → (n ≡ 0 → ⊥) → outcome n b ≡ outcome n a >>= f
       go zero h = absurd (h refl)
       go (suc n) h = refl
 
-  pub stays-made : {f : A → Result (B × ℕ)} {k : ℕ} (b : B) → (n ≡ 0 → ⊥) → Makes (resultOf n a) f (resultOf n b) k
-  unfolding resultOf
+  pub stays-made : {f : A → Result (B × ℕ)} {k : ℕ} (b : B) → (n ≡ 0 → ⊥) → Makes (outcome n a) f (outcome n b) k
+  unfolding outcome
   stays-made {f} {k} b h = record { is = go n h }
     where
-      go : (n : ℕ) → (n ≡ 0 → ⊥) → (resultOf n b >>= (λ b. accept (b, k))) ≡ resultOf n a >>= f
+      go : (n : ℕ) → (n ≡ 0 → ⊥) → (outcome n b >>= (λ b. accept (b, k))) ≡ outcome n a >>= f
       go zero h = absurd (h refl)
       go (suc n) h = refl
 
   -- whichever it is
-  pub alters : {f : A → Result B} (b : B) → f a ≡ accept b → Leads (resultOf n a) f (resultOf n b)
-  unfolding resultOf
+  pub alters : {f : A → Result B} (b : B) → f a ≡ accept b → Leads (outcome n a) f (outcome n b)
+  unfolding outcome
   alters {f} b e = record { is = go n }
     where
-      go : (n : ℕ) → resultOf n b ≡ resultOf n a >>= f
+      go : (n : ℕ) → outcome n b ≡ outcome n a >>= f
       go zero = sym e
       go (suc n) = refl
 
-  pub restates-made : {f : A → Result (B × ℕ)} (f′ : A → Result (B × ℕ)) {y : Result B} {k : ℕ} → f a ≡ f′ a → Makes (resultOf n a) f y k → Makes (resultOf n a) f′ y k
-  unfolding resultOf
+  pub restates-made : {f : A → Result (B × ℕ)} (f′ : A → Result (B × ℕ)) {y : Result B} {k : ℕ} → f a ≡ f′ a → Makes (outcome n a) f y k → Makes (outcome n a) f′ y k
+  unfolding outcome
   restates-made {f} f′ e h = record { is = h .is ∙ go n }
     where
-      go : (n : ℕ) → (resultOf n a >>= f) ≡ resultOf n a >>= f′
+      go : (n : ℕ) → (outcome n a >>= f) ≡ outcome n a >>= f′
       go zero = e
       go (suc n) = refl
 
-  pub restates : {f : A → Result B} (f′ : A → Result B) {y : Result B} → f a ≡ f′ a → Leads (resultOf n a) f y → Leads (resultOf n a) f′ y
-  unfolding resultOf
+  pub restates : {f : A → Result B} (f′ : A → Result B) {y : Result B} → f a ≡ f′ a → Leads (outcome n a) f y → Leads (outcome n a) f′ y
+  unfolding outcome
   restates {f} f′ e h = record { is = h .is ∙ go n }
     where
-      go : (n : ℕ) → (resultOf n a >>= f) ≡ resultOf n a >>= f′
+      go : (n : ℕ) → (outcome n a >>= f) ≡ outcome n a >>= f′
       go zero = e
       go (suc n) = refl
 
@@ -80,24 +81,24 @@ abbrev placed : ℕ → Bool → Graph × ℕ → Result (Cursor × ℕ)
 placed p o r = accept (cursor (r .0) p o, r .1)
 
 module _ (n : ℕ) (x y : Graph) (p : ℕ) (o : Bool) where
-  pub edge-leads : (from to : ℕ) (ev : Event) → resultOf n y ≡ addEdge from to ev x → resultOf n (cursor y p o) ≡ edgeBetween from to ev (cursor x p o)
-  unfolding edgeBetween resultOf
+  pub edge-leads : (from to : ℕ) (ev : Event) → outcome n y ≡ addEdge from to ev x → outcome n (cursor y p o) ≡ edgeBetween from to ev (cursor x p o)
+  unfolding edgeBetween outcome
   edge-leads from to ev h = rw (← h) (go n)
     where
-      go : (n : ℕ) → resultOf n (cursor y p o) ≡ (resultOf n y >>= (λ g. accept (cursor g p o)))
+      go : (n : ℕ) → outcome n (cursor y p o) ≡ (outcome n y >>= (λ g. accept (cursor g p o)))
       go zero = refl
       go (suc n) = refl
 
-  made : (k : ℕ) (n : ℕ) → (resultOf n (cursor y p o) >>= paired k) ≡ (resultOf {A = Graph × ℕ} n (y, k) >>= placed p o)
-  unfolding resultOf
+  made : (k : ℕ) (n : ℕ) → (outcome n (cursor y p o) >>= paired k) ≡ (outcome {A = Graph × ℕ} n (y, k) >>= placed p o)
+  unfolding outcome
   made k zero = refl
   made k (suc n) = refl
 
-  pub node-made : (k mode : ℕ) (action : NodeAction) → resultOf {A = Graph × ℕ} n (y, k) ≡ addNode mode action x → (resultOf n (cursor y p o) >>= paired k) ≡ nodeFor mode action (cursor x p o)
+  pub node-made : (k mode : ℕ) (action : NodeAction) → outcome {A = Graph × ℕ} n (y, k) ≡ addNode mode action x → (outcome n (cursor y p o) >>= paired k) ≡ nodeFor mode action (cursor x p o)
   unfolding nodeFor
   node-made k mode action h = rw (← h) (made k n)
 
-  pub settle-made : (k mode node : ℕ) (action : NodeAction) → resultOf {A = Graph × ℕ} n (y, k) ≡ settle mode node action x → (resultOf n (cursor y p o) >>= paired k) ≡ settledAt mode node action (cursor x p o)
+  pub settle-made : (k mode node : ℕ) (action : NodeAction) → outcome {A = Graph × ℕ} n (y, k) ≡ settle mode node action x → (outcome n (cursor y p o) >>= paired k) ≡ settledAt mode node action (cursor x p o)
   unfolding settledAt
   settle-made k mode node action h = rw (← h) (made k n)
 
@@ -155,22 +156,16 @@ same-result (accept a) = refl
 same-result (refuse n) = refl
 
 module _ (mode : ℕ) (ev : Event) where
-  pub simples-more : {x y : Result Cursor} (i k : ℕ) → i ≡ suc k → Leads x (addSimpleStep mode ev Empty) y → (y >>= addSimples k mode ev) ≡ x >>= addSimples i mode ev
-  unfolding addSimples
-  simples-more {x} {y} i k e h = rw e (back (addSimples k mode ev) h)
+  -- one time, and the Fallthrough edge if there is an end
+  pub times-more : {x y z : Result Cursor} (end : Option ℕ) (i k : ℕ) → i ≡ suc k → Leads x (addSimpleStep mode ev Empty) y → Leads y (mapFall end) z → (z >>= addTimes k mode ev end) ≡ x >>= addTimes i mode ev end
+  unfolding addTimes addSimples addOptionals mapFall
+  times-more {x} {y} {z} none i k e h j = rw e (ap (λ (r : Result Cursor). r >>= addSimples k mode ev) (j .is ∙ same-result y) ∙ back (addSimples k mode ev) h)
+  times-more {x} {y} {z} (some end) i k e h j = rw e (back (addOptionals k mode ev end) j ∙ back (λ c₁. edgeTo end Fallthrough c₁ >>= addOptionals k mode ev end) h)
 
-  pub simples-none : (x : Result Cursor) (i : ℕ) → i ≡ 0 → (x >>= addSimples i mode ev) ≡ x
-  unfolding addSimples
-  simples-none x i e = rw e (same-result x)
-
-  module _ (end : ℕ) where
-    pub optionals-more : {x y z : Result Cursor} (i k : ℕ) → i ≡ suc k → Leads x (addSimpleStep mode ev Empty) y → Leads y (edgeTo end Fallthrough) z → (z >>= addOptionals k mode ev end) ≡ x >>= addOptionals i mode ev end
-    unfolding addOptionals
-    optionals-more {x} {y} {z} i k e h j = rw e (back (addOptionals k mode ev end) j ∙ back (λ c₁. edgeTo end Fallthrough c₁ >>= addOptionals k mode ev end) h)
-
-    pub optionals-none : (x : Result Cursor) (i : ℕ) → i ≡ 0 → (x >>= addOptionals i mode ev end) ≡ x
-    unfolding addOptionals
-    optionals-none x i e = rw e (same-result x)
+  pub times-none : (x : Result Cursor) (end : Option ℕ) (i : ℕ) → i ≡ 0 → (x >>= addTimes i mode ev end) ≡ x
+  unfolding addTimes addSimples addOptionals
+  times-none x none i e = rw e (same-result x)
+  times-none x (some end) i e = rw e (same-result x)
 
 -- ---- repeats
 module _ (mode : ℕ) (ev : Event) where
@@ -301,20 +296,32 @@ prefix-none mode os x single ds e = rw e (record { is = sym (same-result x) })
 
 -- ---- the same laws at a cursor over words
 module _ (ws : List ℕ) (s : C.Cursor) where
-  pub alters-in : {f : Cursor → Result Cursor} (b : Cursor) → f (cursorIn ws s) ≡ accept b → Leads (outcome ws s) f (resultOf (s .refusal) b)
-  unfolding outcome
+  pub alters-in : {f : Cursor → Result Cursor} (b : Cursor) → f (cursorIn ws s) ≡ accept b → Leads (cameTo ws s) f (outcome (s .refusal) b)
+  unfolding cameTo
   alters-in b e = alters (s .refusal) (cursorIn ws s) b e
 
-  pub restates-in : {f : Cursor → Result Cursor} (f′ : Cursor → Result Cursor) {y : Result Cursor} → f (cursorIn ws s) ≡ f′ (cursorIn ws s) → Leads (outcome ws s) f y → Leads (outcome ws s) f′ y
-  unfolding outcome
+  pub restates-in : {f : Cursor → Result Cursor} (f′ : Cursor → Result Cursor) {y : Result Cursor} → f (cursorIn ws s) ≡ f′ (cursorIn ws s) → Leads (cameTo ws s) f y → Leads (cameTo ws s) f′ y
+  unfolding cameTo
   restates-in f′ e h = restates (s .refusal) (cursorIn ws s) f′ e h
 
   -- the upsert by the end that a search for the cursor's edge gave
   pub upserts-in : (mode : ℕ) (ev : Event) (action : NodeAction) (end : Option ℕ) → ((ns : List Node) → end ≡ getEdge (graphBy ns (edgesOf (edgeWords ws) (s .counts .edges))) (s .prev) ev)
-      → {y : Result Cursor} {k : ℕ} → Makes (outcome ws s) (upsertedAt mode end action) y k → Makes (outcome ws s) (upserted mode ev action) y k
-  unfolding outcome
+      → {y : Result Cursor} {k : ℕ} → Makes (cameTo ws s) (upsertedAt mode end action) y k → Makes (cameTo ws s) (upserted mode ev action) y k
+  unfolding cameTo
   upserts-in mode ev action end h m =
       restates-made (s .refusal) (cursorIn ws s) (upserted mode ev action) (upsert-found (cursorIn ws s) mode action end ev (h (nodesOf (headWords ws) (actWords ws) (s .counts .nodes)))) m
+
+-- ---- the links of an index of a cursor's edges lead where a search of all its edges does
+module _ (ws : List ℕ) (hl : length ws ≡ 4128) (s : C.Cursor) (ls : List ℕ) (x : Indexed (edgesIn ws s) ls) where
+  few : length (edgeWords ws) ≤ 2048
+  few = omega (arith, edges-length ws hl)
+
+  pub place-in : (key : ℕ) → linkedPlace (reached (edgeWords ws) (s .counts .edges)) ls key ≡ find (keyIs key) (edgesIn ws s)
+  place-in key = reached-place (edgeWords ws) (s .counts .edges) ls few x key
+
+  pub end-in : (n : ℕ) (ev : Event) (ns : List Node) → linkedEnd (reached (edgeWords ws) (s .counts .edges)) ls n ev ≡ getEdge (graphBy ns (edgesOf (edgeWords ws) (s .counts .edges))) n ev
+  unfolding getEdge
+  end-in n ev ns = reached-end (edgeWords ws) (s .counts .edges) ls few x n ev
 
 -- ---- the code of Fallthrough
 module _ {x y : Result Cursor} where
@@ -326,6 +333,6 @@ module _ {x y : Result Cursor} where
 
 -- ---- the whole call: from the root of the mode, and what is left of the cursor is its graph
 pub call-done : (ws : List ℕ) (k : Counts) (mode : ℕ) (f : Cursor → Result Cursor) {y : Result Cursor} (s : C.Cursor) → s ≡ record { counts = k; prev = mode; owed = false; refusal = 0 }
-    → Leads (outcome ws s) f y → (y >>= (λ c. accept (c .graph))) ≡ (f (cursor (graphIn ws k) mode false) >>= (λ c. accept (c .graph)))
-unfolding outcome resultOf
+    → Leads (cameTo ws s) f y → (y >>= (λ c. accept (c .graph))) ≡ (f (cursor (graphIn ws k) mode false) >>= (λ c. accept (c .graph)))
+unfolding cameTo outcome
 call-done ws k mode f {y} s e l = ap (λ (r : Result Cursor). r >>= (λ c. accept (c .graph))) (rw e at (l .is))

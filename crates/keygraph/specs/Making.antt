@@ -3,15 +3,13 @@
 use Prim.Native.Nat.{ℕ, zero, suc}
 use mathlib.Core.Path.{_≡_}
 use mathlib.Core.List.{List, [], _∷_}
-use mathlib.Core.Option.{Option}
-use lib.Dec.{ltb}
+use mathlib.Core.Option.{Option, none, some}
 use lib.ListN.{take}
-use Rattle.rules.specs.Basics.{if_then_else_, Result, accept, refuse, _>>=_}
+use Rattle.rules.specs.Basics.{if_then_else_, Result, accept, _>>=_}
 use Rattle.rules.specs.Values as v
 use Rattle.rules.specs.Graph as g
 use Rattle.keygraph.specs.declared.cursor.Cursor.{Cursor}
-use Rattle.keyparts.specs.View.{linkAt, edgeWords}
-use Rattle.keygraph.specs.View.{graphIn}
+use Rattle.keyparts.specs.View.{outcome, edgeWords, graphIn}
 
 -- y is what x comes to by f, and a refusal of x is kept
 pub record Leads {A B : Type 0} (x : Result A) (f : A → Result B) (y : Result B) : Type 0 where
@@ -21,11 +19,6 @@ pub record Leads {A B : Type 0} (x : Result A) (f : A → Result B) (y : Result 
 pub record Makes {A B : Type 0} (x : Result A) (f : A → Result (B × ℕ)) (y : Result B) (n : ℕ) : Type 0 where
   pub is : (y >>= (λ b. accept (b, n))) ≡ x >>= f
 
--- a value with the number of a refusal, or 0
-unfoldable pub resultOf : {A : Type 0} → ℕ → A → Result A
-resultOf zero a = accept a
-resultOf (suc n) a = refuse (suc n)
-
 -- a cursor over words
 abbrev pub cursorIn : List ℕ → Cursor → g.Cursor
 cursorIn ws c = g.cursor (graphIn ws (c .counts)) (c .prev) (c .owed)
@@ -34,12 +27,9 @@ cursorIn ws c = g.cursor (graphIn ws (c .counts)) (c .prev) (c .owed)
 abbrev pub edgesIn : List ℕ → Cursor → List ℕ
 edgesIn ws c = take (c .counts .edges) (edgeWords ws)
 
-unfoldable pub outcome : List ℕ → Cursor → Result g.Cursor
-outcome ws c = resultOf (c .refusal) (cursorIn ws c)
-
--- the links after an edge with the key went to place i, where there were n edges: behind the last it goes before its chain
-unfoldable pub linkMore : List ℕ → ℕ → ℕ → ℕ → List ℕ
-linkMore ls n i key = if ltb i n then ls else linkAt ls i key
+-- what the calls on a cursor have come to: the cursor over the words, or the refusal
+unfoldable pub cameTo : List ℕ → Cursor → Result g.Cursor
+cameTo ws c = outcome (c .refusal) (cursorIn ws c)
 
 -- ---- parts of the rules' functions on a cursor
 
@@ -59,6 +49,11 @@ upserted mode ev action c = onGraph (g.upsertNode mode (c .prev) ev action) c
 
 unfoldable pub paid : ℕ → g.Cursor → Result g.Cursor
 paid to c = if c .fallthrough then g.edgeTo to v.Fallthrough c else accept c
+
+-- n further times the event; with an end, each of them may be the last
+unfoldable pub addTimes : ℕ → ℕ → v.Event → Option ℕ → g.Cursor → Result g.Cursor
+addTimes n mode ev none = g.addSimples n mode ev
+addTimes n mode ev (some end) = g.addOptionals n mode ev end
 
 -- the parts of a path before its last
 unfoldable pub addParts : ℕ → List v.Part → g.Cursor → Result g.Cursor

@@ -1,15 +1,14 @@
-// The key graph: adding bindings to it, in place and by value, and the graph as a value. A function that has the name of a
-// definition of crates/rules/specs/Graph.antt is proved equal to it, by the view of specs/View.antt; what the others do is
-// said in the same terms.
+// The key graph: adding bindings to it, in place and by value. A function that has the name of a definition of
+// crates/rules/specs/Graph.antt is proved equal to it, by the view of keyparts' specs/View.antt; what the others do is said in
+// the same terms.
 //
 // A graph is kept in one array of words with two counts, so that the functions that add work in place and lend one array
-// to each call. What a graph is made of, and what is only read from slices of its words, stands in the crate below and is
-// handed on from here.
+// to each call. What a graph is made of, where its words stand, and what is only read from it, stands in the crate below and
+// is handed on from here.
+pub mod added;
 mod cursor;
-pub mod graph;
 mod indexed;
 pub mod mapping;
-mod parts;
 pub mod prefix;
 mod repeat;
 
@@ -19,8 +18,11 @@ pub use keyparts::edge;
 pub use keyparts::event;
 pub use keyparts::find;
 pub use keyparts::follow;
+pub use keyparts::graph;
 pub use keyparts::index;
+pub use keyparts::layout;
 pub use keyparts::node;
 pub use keyparts::number;
 pub use keyparts::path;
 pub use keyparts::step;
+pub use keyparts::tables;

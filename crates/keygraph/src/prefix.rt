@@ -1,14 +1,14 @@
 // Adding a prefix, in place and by value. A prefix may have a step: `chosen` says so, and else the step beside it is not looked at.
+use crate::added::AddResult;
+use crate::added::Added;
 use crate::cursor::Cursor;
-use crate::graph::Added;
-use crate::graph::Counts;
-use crate::graph::Graph;
-use crate::mapping::Placed;
 use crate::repeat;
 use keyparts::answer::Answer;
 use keyparts::event;
 use keyparts::event::EdgeRepeat;
-use keyparts::node::Packed;
+use keyparts::graph::Counts;
+use keyparts::graph::Graph;
+use keyparts::node::NodeWords;
 use keyparts::path::EdgePath;
 use keyparts::path::EdgePathPart;
 use keyparts::step::Step;
@@ -22,24 +22,24 @@ ghost use lib.ListN.{length};
 ghost use Rattle.rules.specs.Basics as b;
 ghost use Rattle.rules.specs.Values as v;
 ghost use Rattle.rules.specs.Graph as g;
-ghost use Rattle.keyparts.specs.View.{eventAt, packedOf, partOf, repeatOf, stepOf, pathOf, wholePath, wholeStep, chosenOf, stepsValid, resultBy};
-ghost use Rattle.keygraph.specs.View.{graphIn, graphOf, settled, addedOf};
-ghost use Rattle.keygraph.specs.Making.{Leads, outcome};
+ghost use Rattle.keyparts.specs.View.{eventAt, nodeIn, partOf, repeatOf, stepOf, pathOf, wholePath, wholeStep, chosenOf, stepsValid, graphIn, graphOf, settled, resultBy};
+ghost use Rattle.keygraph.specs.View.{addedOf};
+ghost use Rattle.keygraph.specs.Making.{Leads, cameTo};
 
 impl Cursor {
     // The last part of a prefix: Once. A step that is there has its node, and else the edge leads to the root.
     pub(crate) fn prefix_once(
         self,
-        words: &mut [u64; 4128],
+        words: &mut [u64; Graph::WORDS],
         mode: u16,
         code: u32,
         chosen: bool,
-        p: Packed,
+        p: NodeWords,
     ) -> Cursor
         requires { ⌜ mode < 16 ⌝ }
         requires { ⌜ length (now words) ≡ 4128 ⌝ }
         ensures { λ r. ⌜ length (now (words .exit)) ≡ 4128 ⌝ }
-        ensures { λ r. ⌜ ((single : Bool) (s : v.Step) → packedOf p ≡ record { mode = mode; action = g.actionOf (chosenOf chosen s) } → Leads (outcome (now (words .entry)) self) (g.prefixLast mode single v.Once (eventAt code) (chosenOf chosen s)) (outcome (now (words .exit)) r)) ⌝ }
+        ensures { λ r. ⌜ ((single : Bool) (s : v.Step) → nodeIn p ≡ record { mode = mode; action = g.actionOf (chosenOf chosen s) } → Leads (cameTo (now (words .entry)) self) (g.prefixLast mode single v.Once (eventAt code) (chosenOf chosen s)) (cameTo (now (words .exit)) r)) ⌝ }
     {
         if chosen {
             let a = self.add_node(words, p);
@@ -54,17 +54,17 @@ impl Cursor {
     // The last part of a prefix: Min.
     pub(crate) fn prefix_min(
         self,
-        words: &mut [u64; 4128],
+        words: &mut [u64; Graph::WORDS],
         n: u16,
         single: bool,
         mode: u16,
         code: u32,
-        p: Packed,
+        p: NodeWords,
     ) -> Cursor
         requires { ⌜ mode < 16 ⌝ }
         requires { ⌜ length (now words) ≡ 4128 ⌝ }
         ensures { λ r. ⌜ length (now (words .exit)) ≡ 4128 ⌝ }
-        ensures { λ r. ⌜ ((os : Option v.Step) → packedOf p ≡ record { mode = mode; action = g.actionOf os } → Leads (outcome (now (words .entry)) self) (g.prefixLast mode single (v.Min n) (eventAt code) os) (outcome (now (words .exit)) r)) ⌝ }
+        ensures { λ r. ⌜ ((os : Option v.Step) → nodeIn p ≡ record { mode = mode; action = g.actionOf os } → Leads (cameTo (now (words .entry)) self) (g.prefixLast mode single (v.Min n) (eventAt code) os) (cameTo (now (words .exit)) r)) ⌝ }
     {
         let a = self.add_node(words, p);
         let e = a.node;
@@ -81,17 +81,17 @@ impl Cursor {
     // The last part of a prefix: Max. The whole path Max(0) changes nothing.
     pub(crate) fn prefix_max(
         self,
-        words: &mut [u64; 4128],
+        words: &mut [u64; Graph::WORDS],
         n: u16,
         single: bool,
         mode: u16,
         code: u32,
-        p: Packed,
+        p: NodeWords,
     ) -> Cursor
         requires { ⌜ mode < 16 ⌝ }
         requires { ⌜ length (now words) ≡ 4128 ⌝ }
         ensures { λ r. ⌜ length (now (words .exit)) ≡ 4128 ⌝ }
-        ensures { λ r. ⌜ ((os : Option v.Step) → packedOf p ≡ record { mode = mode; action = g.actionOf os } → Leads (outcome (now (words .entry)) self) (g.prefixLast mode single (v.Max n) (eventAt code) os) (outcome (now (words .exit)) r)) ⌝ }
+        ensures { λ r. ⌜ ((os : Option v.Step) → nodeIn p ≡ record { mode = mode; action = g.actionOf os } → Leads (cameTo (now (words .entry)) self) (g.prefixLast mode single (v.Max n) (eventAt code) os) (cameTo (now (words .exit)) r)) ⌝ }
     {
         if is_nothing(single, n) {
             return self;
@@ -107,18 +107,18 @@ impl Cursor {
     // The last part of a prefix, which leads back to the root; `single`: it is the whole path; `p` has the step, if one is there.
     pub(crate) fn prefix_last(
         self,
-        words: &mut [u64; 4128],
+        words: &mut [u64; Graph::WORDS],
         repeat: EdgeRepeat,
         single: bool,
         mode: u16,
         code: u32,
         chosen: bool,
-        p: Packed,
+        p: NodeWords,
     ) -> Cursor
         requires { ⌜ mode < 16 ⌝ }
         requires { ⌜ length (now words) ≡ 4128 ⌝ }
         ensures { λ r. ⌜ length (now (words .exit)) ≡ 4128 ⌝ }
-        ensures { λ r. ⌜ ((s : v.Step) → packedOf p ≡ record { mode = mode; action = g.actionOf (chosenOf chosen s) } → Leads (outcome (now (words .entry)) self) (g.prefixLast mode single (repeatOf repeat) (eventAt code) (chosenOf chosen s)) (outcome (now (words .exit)) r)) ⌝ }
+        ensures { λ r. ⌜ ((s : v.Step) → nodeIn p ≡ record { mode = mode; action = g.actionOf (chosenOf chosen s) } → Leads (cameTo (now (words .entry)) self) (g.prefixLast mode single (repeatOf repeat) (eventAt code) (chosenOf chosen s)) (cameTo (now (words .exit)) r)) ⌝ }
     {
         match repeat {
             EdgeRepeat::Once => return self.prefix_once(words, mode, code, chosen, p),
@@ -129,7 +129,7 @@ impl Cursor {
 
     pub(crate) fn prefix_end(
         self,
-        words: &mut [u64; 4128],
+        words: &mut [u64; Graph::WORDS],
         part: EdgePathPart,
         single: bool,
         mode: u16,
@@ -139,19 +139,19 @@ impl Cursor {
         requires { ⌜ mode < 16 ⌝ }
         requires { ⌜ length (now words) ≡ 4128 ⌝ }
         ensures { λ r. ⌜ length (now (words .exit)) ≡ 4128 ⌝ }
-        ensures { λ r. ⌜ Leads (outcome (now (words .entry)) self) (g.prefixPath mode single (partOf part ∷ []) (chosenOf chosen (stepOf step))) (outcome (now (words .exit)) r) ⌝ }
+        ensures { λ r. ⌜ Leads (cameTo (now (words .entry)) self) (g.prefixPath mode single (partOf part ∷ []) (chosenOf chosen (stepOf step))) (cameTo (now (words .exit)) r) ⌝ }
     {
         let ev = part.event;
         let repeat = part.repeat;
         let code = ev.code();
-        let p = pack_chosen(mode, chosen, step);
+        let p = words_chosen(mode, chosen, step);
         self.prefix_last(words, repeat, single, mode, code, chosen, p)
     }
 
     // A whole path. An empty one changes nothing.
     pub(crate) fn prefix_path(
         self,
-        words: &mut [u64; 4128],
+        words: &mut [u64; Graph::WORDS],
         mode: u16,
         path: EdgePath,
         chosen: bool,
@@ -160,7 +160,7 @@ impl Cursor {
         requires { ⌜ mode < 16 ⌝ }
         requires { ⌜ length (now words) ≡ 4128 ⌝ }
         ensures { λ r. ⌜ length (now (words .exit)) ≡ 4128 ⌝ }
-        ensures { λ r. ⌜ Leads (outcome (now (words .entry)) self) (g.prefixPath mode true (pathOf path) (chosenOf chosen (stepOf step))) (outcome (now (words .exit)) r) ⌝ }
+        ensures { λ r. ⌜ Leads (cameTo (now (words .entry)) self) (g.prefixPath mode true (pathOf path) (chosenOf chosen (stepOf step))) (cameTo (now (words .exit)) r) ⌝ }
     {
         let n = path.size();
         if n == 0 {
@@ -175,14 +175,14 @@ impl Cursor {
 }
 
 // The words of a node with the step, if the prefix has one, and else of an empty one.
-fn pack_chosen(mode: u16, chosen: bool, step: Step) -> Packed
+fn words_chosen(mode: u16, chosen: bool, step: Step) -> NodeWords
     requires { ⌜ mode < 16 ⌝ }
-    ensures { λ r. ⌜ packedOf r ≡ record { mode = mode; action = g.actionOf (chosenOf chosen (stepOf step)) } ⌝ }
+    ensures { λ r. ⌜ nodeIn r ≡ record { mode = mode; action = g.actionOf (chosenOf chosen (stepOf step)) } ⌝ }
 {
     if chosen {
-        return step.pack(mode);
+        return NodeWords::holding(step, mode);
     }
-    Packed::empty(mode)
+    NodeWords::empty(mode)
 }
 
 fn prefix_step_valid(chosen: bool, step: Step) -> bool
@@ -210,20 +210,22 @@ fn is_nothing(single: bool, n: u16) -> bool
     if single { n == 0 } else { false }
 }
 
-// A prefix in place; `chosen`: it has the step. What it leaves is as of `add_mapping_in`.
-pub fn add_prefix_in(
-    words: &mut [u64; 4128],
+// A prefix in place; `chosen`: it has the step. Refused, the words are scratch: half of the work may stand in them, only the
+// number counts, and the caller must not go on with them. Accepted, the words and the counts are those of the graph with the
+// prefix.
+pub fn add_prefix_or_scratch(
+    words: &mut [u64; Graph::WORDS],
     counts: Counts,
     mode: u16,
     path: EdgePath,
     chosen: bool,
     step: Step,
-) -> Placed
+) -> AddResult
     requires { ⌜ length (now words) ≡ 4128 ⌝ }
     ensures { λ r. ⌜ length (now (words .exit)) ≡ 4128 ⌝ }
     ensures { λ r. ⌜ resultBy (r .answer) (graphIn (now (words .exit)) (r .counts)) ≡ b.unless (v.prefixValid mode (wholePath path) (chosenOf chosen (wholeStep step))) 1 (g.addPrefix mode (wholePath path) (chosenOf chosen (wholeStep step)) (graphIn (now (words .entry)) counts)) ⌝ }
 {
-    if mode < 16 {
+    if mode < Graph::ROOTS {
         if path.valid() {
             if prefix_step_valid(chosen, step) {
                 let c = Cursor::start(counts, mode);
@@ -231,19 +233,17 @@ pub fn add_prefix_in(
             }
         }
     }
-    Placed {
+    AddResult {
         counts: counts,
         answer: Answer::Refused(1),
     }
 }
 
-impl Graph {
-    // A prefix more; `chosen`: it has the step. Refused, the graph is the one before.
-    pub fn add_prefix(self, mode: u16, path: EdgePath, chosen: bool, step: Step) -> Added
-        ensures { λ r. ⌜ addedOf r ≡ settled (graphOf self) (b.unless (v.prefixValid mode (wholePath path) (chosenOf chosen (wholeStep step))) 1 (g.addPrefix mode (wholePath path) (chosenOf chosen (wholeStep step)) (graphOf self))) ⌝ }
-    {
-        let mut words = self.words;
-        let r = add_prefix_in(&mut words, self.counts, mode, path, chosen, step);
-        self.settled(words, r)
-    }
+// A prefix more, by value; `chosen`: it has the step. Refused, the graph is the one before.
+pub fn add_prefix(graph: Graph, mode: u16, path: EdgePath, chosen: bool, step: Step) -> Added
+    ensures { λ r. ⌜ addedOf r ≡ settled (graphOf graph) (b.unless (v.prefixValid mode (wholePath path) (chosenOf chosen (wholeStep step))) 1 (g.addPrefix mode (wholePath path) (chosenOf chosen (wholeStep step)) (graphOf graph))) ⌝ }
+{
+    let mut words = graph.words;
+    let r = add_prefix_or_scratch(&mut words, graph.counts, mode, path, chosen, step);
+    Added::settled(graph, words, r)
 }

@@ -1,6 +1,6 @@
 -- By whether the place is below the number of edges, as `linkMore`.
 use borrow.Author.Tests.{lt-ltb, le-ltb}
-use Rattle.keygraph.specs.Making.{linkMore}
+use Rattle.keyparts.specs.View.{linkMore}
 use borrow.Author.Needs.{needs}
 use Rattle.keygraph.proofs.indexed.link_more.Statement.{statement}
 use Rattle.keygraph.proofs.indexed.link_more.Tie as tie

@@ -1,12 +1,12 @@
 -- What the cursor comes to by the parts that are left is what the first one comes to by all of them.
-use Prim.Native.Nat.{_≤_, _-_, _+_, min}
+use Prim.Native.Nat.{_≤_, _-_, min}
 use mathlib.Core.Path.{_≡_, refl, sym, _∙_}
 use mathlib.Core.List.{map}
 use native.Mathlib.Omega.{arith}
 use lib.ListN.{length, take, drop}
 use Rattle.rules.specs.Basics.{_>>=_}
 use Rattle.keyparts.specs.View.{partOf}
-use Rattle.keygraph.specs.Making.{outcome, addParts}
+use Rattle.keygraph.specs.Making.{cameTo, addParts}
 use Rattle.keyparts.proofs.Finds.{view-cons, view-nil}
 use Rattle.keyparts.proofs.Ranges.{rawPart, length-mapped}
 use Rattle.keygraph.proofs.Cursors.{parts-more, parts-none}
@@ -15,7 +15,7 @@ use Rattle.keygraph.proofs.cursor.Cursor.add_intermediates.Statement.{s
 use Rattle.keygraph.proofs.cursor.Cursor.add_intermediates.Tie as tie
 
 abbrev Inv-loop : tie.InvT-loop
-Inv-loop words₀ path n mode c₀ i₀ words c i = (i ≤ n) × (length words ≡ 4128) × ((outcome words c >>= addParts mode (map partOf (drop i (take n (path .parts))))) ≡ (outcome words₀ c₀ >>= addParts mode (map partOf (take n (path .parts)))))
+Inv-loop words₀ path n mode c₀ i₀ words c i = (i ≤ n) × (length words ≡ 4128) × ((cameTo words c >>= addParts mode (map partOf (drop i (take n (path .parts))))) ≡ (cameTo words₀ c₀ >>= addParts mode (map partOf (take n (path .parts)))))
 
 abbrev μ-loop : tie.MeasureT-loop
 μ-loop words₀ path n mode c₀ i₀ words c i = n - i
@@ -48,7 +48,7 @@ loop-again c = let k = c .before .before .before .before in let a = c .before .b
 
 returns : tie.Need-returns Inv-loop μ-loop
 returns c = let k = c .before in let a = c .before .before .args in let ps = a .path .parts in
-    (k .loop .inv .1, record { is = sym (parts-none (a .mode) (outcome (k .loop .words) (k .loop .c)) _ (view-nil partOf (a .n) ps rawPart (k .loop .i) (a .n) (whole (c .before .before)) (omega arith))) ∙ k .loop .inv .2 })
+    (k .loop .inv .1, record { is = sym (parts-none (a .mode) (cameTo (k .loop .words) (k .loop .c)) _ (view-nil partOf (a .n) ps rawPart (k .loop .i) (a .n) (whole (c .before .before)) (omega arith))) ∙ k .loop .inv .2 })
 
 pub add-intermediates-spec : {M : Type 1} → statement M
 add-intermediates-spec = tie.close (tie.spec Inv-loop μ-loop loop-holds part-at-requires add-intermediate-requires add-i loop-less loop-again returns)

@@ -3,7 +3,7 @@ use native.Mathlib.Omega.{arith}
 use mathlib.Core.Path.{_≡_}
 use Prim.Native.Nat.{suc, _-_}
 use Rattle.rules.specs.Graph.{addMax}
-use Rattle.keygraph.specs.Making.{outcome}
+use Rattle.keygraph.specs.Making.{cameTo}
 use Rattle.keygraph.proofs.Binds.{then, leads-same}
 use borrow.Author.Needs.{needs}
 use Rattle.keygraph.proofs.cursor.Cursor.add_max.Statement.{statement}
@@ -11,7 +11,7 @@ use Rattle.keygraph.proofs.cursor.Cursor.add_max.Tie as tie
 
 returns : tie.Need-returns
 unfolding addMax
-returns c = let a = c .before .args in (c .before .pre .1, rw (c .if1 .taken) (leads-same (outcome (a .words .now) (a .self))))
+returns c = let a = c .before .args in (c .before .pre .1, rw (c .if1 .taken) (leads-same (cameTo (a .words .now) (a .self))))
 
 sub-add-optionals : tie.Need-sub-add-optionals
 sub-add-optionals c = search needs

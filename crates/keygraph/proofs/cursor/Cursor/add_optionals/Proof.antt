@@ -1,76 +1,15 @@
--- The loop counts down: what the cursor comes to by the times that are left is what the first one comes to by all. The links are those
--- of an index of the cursor's edges, before the first turn and after each.
-use Prim.Native.Nat.{_≤_, _-_}
-use mathlib.Core.Path.{_≡_, refl, sym, _∙_}
-use native.Mathlib.Omega.{arith}
-use lib.ListN.{length}
-use Rattle.rules.specs.Basics.{_>>=_}
-use Rattle.rules.specs.Graph.{addOptionals}
-use Rattle.keyparts.specs.View.{eventAt, Indexed}
-use Rattle.keyparts.proofs.Words.{mode-fits}
-use Rattle.keygraph.specs.Making.{outcome, edgesIn}
-use Rattle.keygraph.proofs.Binds.{leads-same}
-use Rattle.keygraph.proofs.Cursors.{optionals-more, optionals-none, to-falls}
+-- `addTimes` with the end is `addOptionals`.
+use Rattle.keygraph.specs.Making.{addTimes}
 use borrow.Author.Needs.{needs}
 use Rattle.keygraph.proofs.cursor.Cursor.add_optionals.Statement.{statement}
 use Rattle.keygraph.proofs.cursor.Cursor.add_optionals.Tie as tie
 
-abbrev Inv-loop : tie.InvT-loop
-Inv-loop words₀ n mode code end p links₀ c₀ i₀ words links c i = (i ≤ n) × (length words ≡ 4128) × Indexed (edgesIn words c) links × ((outcome words c >>= addOptionals i mode (eventAt code) end) ≡ (outcome words₀ c₀ >>= addOptionals n mode (eventAt code) end))
+add-times-requires : tie.Need-add-times-requires
+add-times-requires c κs = search needs
 
-abbrev μ-loop : tie.MeasureT-loop
-μ-loop words₀ n mode code end p links₀ c₀ i₀ words links c i = i
-
-returns : tie.Need-returns Inv-loop μ-loop
-unfolding addOptionals
-returns c = let a = c .before .args in (c .before .pre .1, rw (c .if1 .taken) (leads-same (outcome (a .words .now) (a .self))))
-
-empty-requires : tie.Need-empty-requires Inv-loop μ-loop
-empty-requires c κs = search needs
-
-index-of-requires : tie.Need-index-of-requires Inv-loop μ-loop
-index-of-requires c κs = c .before .before .before .before .pre .1
-
-loop-holds : tie.Need-loop-holds Inv-loop μ-loop
-loop-holds c = (search needs, c .before .before .before .before .before .before .pre .1, c .before .index-of .ensures, refl)
-
-step-by-requires : tie.Need-step-by-requires Inv-loop μ-loop
-step-by-requires c κs = (c .before .before .before .loop .inv .1, c .before .before .before .loop .inv .2)
-
-edge-by-requires : tie.Need-edge-by-requires Inv-loop μ-loop
-edge-by-requires c κs = (c .before .before .step-by .ensures .0, c .before .before .step-by .ensures .1 .1)
-
-sub-i : tie.Need-sub-i Inv-loop μ-loop
-sub-i c = search needs
-
-loop-less : tie.Need-loop-less Inv-loop μ-loop
-loop-less c = search needs
-
-loop-again : tie.Need-loop-again Inv-loop μ-loop
-loop-again c = let k = c .before .before .before .before .before .before .before .loop in let a = c .before .before .before .before .before .before .before .before .before .before .before .before .before .before .args in (
-  search needs,
-  c .edge-by .ensures .0,
-  c .edge-by .ensures .1 .1,
-  optionals-more (a .mode) (eventAt (a .code)) (a .end) (k .i) (k .i - 1) (omega (arith, c .before .before .before .before .before .before .loop-test .taken)) (rw (c .before .before .before .before .before .before .before .before .before .before .before .before .empty .ensures, mode-fits _ (c .before .before .before .before .before .before .before .before .before .before .before .before .before .before .pre .0)) at (c .before .before .before .step-by .ensures .1 .0)) (to-falls _ (c .edge-by .ensures .1 .0)) ∙ k .inv .3,
-)
-
-returns-2 : tie.Need-returns-2 Inv-loop μ-loop
-returns-2 c = let k = c .before .loop in let a = c .before .before .before .before .before .before .before .before .args in
-    (k .inv .1, record { is = sym (optionals-none (a .mode) (eventAt (a .code)) (a .end) (outcome (k .words) (k .c)) (k .i) (omega arith)) ∙ k .inv .3 })
+returns : tie.Need-returns
+unfolding addTimes
+returns c = c .add-times .ensures
 
 pub add-optionals-spec : {M : Type 1} → statement M
-add-optionals-spec =
-    tie.close
-    (tie.spec
-    Inv-loop
-    μ-loop
-    returns
-    empty-requires
-    index-of-requires
-    loop-holds
-    step-by-requires
-    edge-by-requires
-    sub-i
-    loop-less
-    loop-again
-    returns-2)
+add-optionals-spec = tie.close (tie.spec add-times-requires returns)

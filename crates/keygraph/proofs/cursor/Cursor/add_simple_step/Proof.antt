@@ -2,7 +2,7 @@
 use Rattle.rules.specs.Graph.{addSimpleStep}
 use Rattle.keygraph.proofs.Cursors.{restates-in, simple-parts}
 use Rattle.keygraph.proofs.Binds.{then, with}
-use Rattle.keyparts.specs.View.{eventAt, packedOf}
+use Rattle.keyparts.specs.View.{eventAt, nodeIn}
 use Rattle.keygraph.specs.Making.{cursorIn}
 use borrow.Author.Needs.{needs}
 use Rattle.keygraph.proofs.cursor.Cursor.add_simple_step.Statement.{statement}
@@ -23,7 +23,7 @@ go-owing-requires c κs = search needs
 returns : tie.Need-returns
 returns c = let a = c .before .before .before .before .before .before .before .args in (
   c .before .edge-to .ensures .0,
-  restates-in (a .words .now) (a .self) (addSimpleStep (packedOf (a .p) .mode) (eventAt (a .code)) (packedOf (a .p) .action)) (simple-parts (packedOf (a .p) .mode) (eventAt (a .code)) (packedOf (a .p) .action) (cursorIn (a .words .now) (a .self)))
+  restates-in (a .words .now) (a .self) (addSimpleStep (nodeIn (a .p) .mode) (eventAt (a .code)) (nodeIn (a .p) .action)) (simple-parts (nodeIn (a .p) .mode) (eventAt (a .code)) (nodeIn (a .p) .action) (cursorIn (a .words .now) (a .self)))
       (with _ (c .before .before .before .before .before .upsert-node .ensures .1) (then (c .before .before .before .pay .ensures .1) (then (c .before .edge-to .ensures .1) (c .go-owing .ensures .0 _)))),
 )
 

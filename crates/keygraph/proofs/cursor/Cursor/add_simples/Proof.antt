@@ -1,72 +1,15 @@
--- The loop counts down: what the cursor comes to by the times that are left is what the first one comes to by all. The links are those
--- of an index of the cursor's edges, before the first turn and after each.
-use Prim.Native.Nat.{_≤_, _-_}
-use mathlib.Core.Path.{_≡_, refl, sym, _∙_}
-use native.Mathlib.Omega.{arith}
-use lib.ListN.{length}
-use Rattle.rules.specs.Basics.{_>>=_}
-use Rattle.rules.specs.Graph.{addSimples}
-use Rattle.keyparts.specs.View.{eventAt, Indexed}
-use Rattle.keyparts.proofs.Words.{mode-fits}
-use Rattle.keygraph.specs.Making.{outcome, edgesIn}
-use Rattle.keygraph.proofs.Binds.{leads-same}
-use Rattle.keygraph.proofs.Cursors.{simples-more, simples-none}
+-- `addTimes` without an end is `addSimples`.
+use Rattle.keygraph.specs.Making.{addTimes}
 use borrow.Author.Needs.{needs}
 use Rattle.keygraph.proofs.cursor.Cursor.add_simples.Statement.{statement}
 use Rattle.keygraph.proofs.cursor.Cursor.add_simples.Tie as tie
 
-abbrev Inv-loop : tie.InvT-loop
-Inv-loop words₀ n mode code p links₀ c₀ left₀ words links c left = (left ≤ n) × (length words ≡ 4128) × Indexed (edgesIn words c) links × ((outcome words c >>= addSimples left mode (eventAt code)) ≡ (outcome words₀ c₀ >>= addSimples n mode (eventAt code)))
+add-times-requires : tie.Need-add-times-requires
+add-times-requires c κs = search needs
 
-abbrev μ-loop : tie.MeasureT-loop
-μ-loop words₀ n mode code p links₀ c₀ left₀ words links c left = left
-
-returns : tie.Need-returns Inv-loop μ-loop
-unfolding addSimples
-returns c = let a = c .before .args in (c .before .pre .1, rw (c .if1 .taken) (leads-same (outcome (a .words .now) (a .self))))
-
-empty-requires : tie.Need-empty-requires Inv-loop μ-loop
-empty-requires c κs = search needs
-
-index-of-requires : tie.Need-index-of-requires Inv-loop μ-loop
-index-of-requires c κs = c .before .before .before .before .pre .1
-
-loop-holds : tie.Need-loop-holds Inv-loop μ-loop
-loop-holds c = (search needs, c .before .before .before .before .before .before .pre .1, c .before .index-of .ensures, refl)
-
-step-by-requires : tie.Need-step-by-requires Inv-loop μ-loop
-step-by-requires c κs = (c .before .before .before .loop .inv .1, c .before .before .before .loop .inv .2)
-
-sub-left : tie.Need-sub-left Inv-loop μ-loop
-sub-left c = search needs
-
-loop-less : tie.Need-loop-less Inv-loop μ-loop
-loop-less c = search needs
-
-loop-again : tie.Need-loop-again Inv-loop μ-loop
-loop-again c = let k = c .before .before .before .before .loop in let a = c .before .before .before .before .before .before .before .before .before .before .before .args in (
-  search needs,
-  c .step-by .ensures .0,
-  c .step-by .ensures .1 .1,
-  simples-more (a .mode) (eventAt (a .code)) (k .left) (k .left - 1) (omega (arith, c .before .before .before .loop-test .taken)) (rw (c .before .before .before .before .before .before .before .before .before .empty .ensures, mode-fits _ (c .before .before .before .before .before .before .before .before .before .before .before .pre .0)) at (c .step-by .ensures .1 .0)) ∙ k .inv .3,
-)
-
-returns-2 : tie.Need-returns-2 Inv-loop μ-loop
-returns-2 c = let k = c .before .loop in let a = c .before .before .before .before .before .before .before .before .args in
-    (k .inv .1, record { is = sym (simples-none (a .mode) (eventAt (a .code)) (outcome (k .words) (k .c)) (k .left) (omega arith)) ∙ k .inv .3 })
+returns : tie.Need-returns
+unfolding addTimes
+returns c = c .add-times .ensures
 
 pub add-simples-spec : {M : Type 1} → statement M
-add-simples-spec =
-    tie.close
-    (tie.spec
-    Inv-loop
-    μ-loop
-    returns
-    empty-requires
-    index-of-requires
-    loop-holds
-    step-by-requires
-    sub-left
-    loop-less
-    loop-again
-    returns-2)
+add-simples-spec = tie.close (tie.spec add-times-requires returns)

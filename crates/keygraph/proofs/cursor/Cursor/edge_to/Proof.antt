@@ -1,7 +1,7 @@
 -- An edge from where the cursor stands is one between that node and the end.
 use mathlib.Core.Path.{refl}
 use Rattle.keyparts.specs.View.{eventAt}
-use Rattle.keygraph.specs.Making.{outcome, cursorIn}
+use Rattle.keygraph.specs.Making.{cameTo, cursorIn}
 use Rattle.rules.specs.Graph.{edgeTo, edgeBetween}
 use Rattle.keygraph.proofs.Cursors.{restates}
 use borrow.Author.Needs.{needs}
@@ -12,7 +12,7 @@ add-edge-requires : tie.Need-add-edge-requires
 add-edge-requires c κs = search needs
 
 returns : tie.Need-returns
-unfolding edgeTo edgeBetween outcome
+unfolding edgeTo edgeBetween cameTo
 returns c = let a = c .before .before .args in let s = a .self in
     (c .add-edge .ensures .0, restates (s .refusal) (cursorIn (a .words .now) s) (edgeTo (a .to) (eventAt (a .code))) refl (c .add-edge .ensures .1))
 

@@ -10,8 +10,8 @@ use Rattle.keygraph.proofs.cursor.Cursor.map_end.Tie as tie
 code-requires : tie.Need-code-requires
 code-requires c κs = search needs
 
-pack-requires : tie.Need-pack-requires
-pack-requires c κs = search needs
+holding-requires : tie.Need-holding-requires
+holding-requires c κs = search needs
 
 map-last-requires : tie.Need-map-last-requires
 map-last-requires c κs = c .before .before .before .pre
@@ -21,7 +21,7 @@ map-fall-requires c κs = c .before .map-last .ensures .0
 
 returns : tie.Need-returns
 unfolding mapPath partOf stepOf
-returns c = (c .map-fall .ensures .0, then (rw (c .before .before .before .before .before .code .ensures) at (c .before .before .map-last .ensures .1 _ (rw (mode-fits _ (c .before .before .before .before .before .before .pre .0)) at (c .before .before .before .before .pack .ensures)))) (c .map-fall .ensures .1))
+returns c = (c .map-fall .ensures .0, then (rw (c .before .before .before .before .before .code .ensures) at (c .before .before .map-last .ensures .1 _ (rw (mode-fits _ (c .before .before .before .before .before .before .pre .0)) at (c .before .before .before .before .holding .ensures)))) (c .map-fall .ensures .1))
 
 pub map-end-spec : {M : Type 1} → statement M
-map-end-spec = tie.close (tie.spec code-requires pack-requires map-last-requires map-fall-requires returns)
+map-end-spec = tie.close (tie.spec code-requires holding-requires map-last-requires map-fall-requires returns)

@@ -1,6 +1,6 @@
 -- By whether the step names a mode.
 use Rattle.rules.specs.Graph.{mapFall}
-use Rattle.keygraph.specs.Making.{outcome}
+use Rattle.keygraph.specs.Making.{cameTo}
 use Rattle.keyparts.proofs.Words.{event-fall}
 use Rattle.keygraph.proofs.Binds.{leads-same}
 use borrow.Author.Needs.{needs}
@@ -22,7 +22,7 @@ enum-told c = search needs
 
 returns-2 : tie.Need-returns-2
 unfolding mapFall
-returns-2 c = let a = c .before .before .args in (c .before .before .pre, rw (c .enum-told .given .1) (leads-same (outcome (a .words .now) (a .self))))
+returns-2 c = let a = c .before .before .args in (c .before .before .pre, rw (c .enum-told .given .1) (leads-same (cameTo (a .words .now) (a .self))))
 
 pub map-fall-spec : {M : Type 1} → statement M
 map-fall-spec = tie.close (tie.spec enum-known-fall edge-to-requires returns enum-told returns-2)

@@ -8,15 +8,15 @@ use Rattle.keygraph.proofs.cursor.Cursor.prefix_end.Tie as tie
 code-requires : tie.Need-code-requires
 code-requires c κs = search needs
 
-pack-chosen-requires : tie.Need-pack-chosen-requires
-pack-chosen-requires c κs = c .before .pre .0
+words-chosen-requires : tie.Need-words-chosen-requires
+words-chosen-requires c κs = c .before .pre .0
 
 prefix-last-requires : tie.Need-prefix-last-requires
 prefix-last-requires c κs = c .before .before .before .pre
 
 returns : tie.Need-returns
 unfolding prefixPath partOf
-returns c = (c .prefix-last .ensures .0, rw (c .before .before .before .code .ensures) at (c .prefix-last .ensures .1 _ (c .before .before .pack-chosen .ensures)))
+returns c = (c .prefix-last .ensures .0, rw (c .before .before .before .code .ensures) at (c .prefix-last .ensures .1 _ (c .before .before .words-chosen .ensures)))
 
 pub prefix-end-spec : {M : Type 1} → statement M
-prefix-end-spec = tie.close (tie.spec code-requires pack-chosen-requires prefix-last-requires returns)
+prefix-end-spec = tie.close (tie.spec code-requires words-chosen-requires prefix-last-requires returns)

@@ -2,7 +2,7 @@
 use mathlib.Core.Path.{sym, _∙_}
 use Rattle.rules.specs.Graph.{prefixLast}
 use Rattle.keyparts.specs.View.{eventAt}
-use Rattle.keygraph.specs.Making.{outcome, cursorIn}
+use Rattle.keygraph.specs.Making.{cameTo, cursorIn}
 use Rattle.keygraph.proofs.Binds.{then, with}
 use Rattle.keygraph.proofs.Cursors.{alters-in, max-prefixes, to-falls, between-falls}
 use borrow.Author.Needs.{needs}
@@ -13,7 +13,7 @@ is-nothing-requires : tie.Need-is-nothing-requires
 is-nothing-requires c κs = search needs
 
 returns : tie.Need-returns
-unfolding prefixLast outcome
+unfolding prefixLast cameTo
 returns c = let a = c .before .before .args in (c .before .before .pre .1, λ os e. alters-in (a .words .now) (a .self) (cursorIn (a .words .now) (a .self)) (rw (sym (c .before .is-nothing .ensures) ∙ c .if1 .taken)))
 
 add-node-requires : tie.Need-add-node-requires

@@ -1,7 +1,7 @@
 -- At 0 nothing is done; else call by call the chain of `addRepeat` at Max.
 use Rattle.rules.specs.Graph.{addRepeat}
 use Rattle.keyparts.specs.View.{eventAt}
-use Rattle.keygraph.specs.Making.{outcome}
+use Rattle.keygraph.specs.Making.{cameTo}
 use Rattle.keygraph.proofs.Binds.{then, with, leads-same}
 use Rattle.keygraph.proofs.Cursors.{max-repeats, to-falls}
 use borrow.Author.Needs.{needs}
@@ -10,7 +10,7 @@ use Rattle.keygraph.proofs.cursor.Cursor.repeat_max.Tie as tie
 
 returns : tie.Need-returns
 unfolding addRepeat
-returns c = let a = c .before .args in (c .before .pre .1, rw (c .if1 .taken) (leads-same (outcome (a .words .now) (a .self))))
+returns c = let a = c .before .args in (c .before .pre .1, rw (c .if1 .taken) (leads-same (cameTo (a .words .now) (a .self))))
 
 add-empty-requires : tie.Need-add-empty-requires
 add-empty-requires c κs = c .before .before .pre

@@ -1,0 +1,22 @@
+-- Accepted, the words that were lent hold the new graph; refused, the graph itself is given back.
+use Rattle.keyparts.specs.View.{settled}
+use borrow.Author.Needs.{needs}
+use Rattle.keygraph.proofs.added.Added.settled.Statement.{statement}
+use Rattle.keygraph.proofs.added.Added.settled.Tie as tie
+
+enum-told : tie.Need-enum-told
+enum-told c = search needs
+
+returns : tie.Need-returns
+unfolding settled
+returns c = rw (c .enum-told .given .1)
+
+enum-known-answer : tie.Need-enum-known-answer
+enum-known-answer c = search needs
+
+returns-2 : tie.Need-returns-2
+unfolding settled
+returns-2 c = rw (c .before .answer .given .1)
+
+pub settled-spec : {M : Type 1} → statement M
+settled-spec = tie.close (tie.spec enum-told returns enum-known-answer returns-2)

@@ -1,0 +1,46 @@
+// What a call that adds leaves: in place, the counts beside the words that were lent; by value, a graph.
+use keyparts::answer::Answer;
+use keyparts::graph::Counts;
+use keyparts::graph::Graph;
+ghost use mathlib.Core.Path.{_≡_};
+ghost use Rattle.keyparts.specs.View.{graphIn, graphOf, settled, resultBy};
+ghost use Rattle.keygraph.specs.View.{addedOf};
+
+// What a call in place leaves beside the words. Where the answer is a refusal, neither the words nor the counts are a graph's.
+pub struct AddResult {
+    pub counts: Counts,
+    pub answer: Answer,
+}
+
+// The graph after a call by value, and the call's answer.
+pub struct Added {
+    pub graph: Graph,
+    pub answer: Answer,
+}
+
+impl Added {
+    // The graph after a call in place on a copy of its words. Refused, the graph is the one before.
+    pub(crate) fn settled(graph: Graph, words: [u64; Graph::WORDS], r: AddResult) -> Added
+        ensures { λ a. ⌜ addedOf a ≡ settled (graphOf graph) (resultBy (r .answer) (graphIn words (r .counts))) ⌝ }
+    {
+        let answer = r.answer;
+        let counts = r.counts;
+        match answer {
+            Answer::Accepted => {
+                return Added {
+                    graph: Graph {
+                        words: words,
+                        counts: counts,
+                    },
+                    answer: answer,
+                };
+            }
+            Answer::Refused(n) => {
+                return Added {
+                    graph: graph,
+                    answer: answer,
+                };
+            }
+        }
+    }
+}
