@@ -11,11 +11,11 @@ use lib.Seq.{take-suc-set}
 use Rattle.rules.specs.Basics.{Result}
 use Rattle.rules.specs.Values.{Key, Class, Any, Fallthrough, Once, Min, Max, isRepeat, isClass}
 use Rattle.rules.specs.Numbers.{number}
-use Rattle.rules.specs.MapFile.{Reader, give, such, upTo, optional, optionalMark, readOptionalMode, repeatBy, eventBy}
+use Rattle.rules.specs.MapFile.{Reader, give, such, upTo, times, listOf, optional, optionalMark, readOptionalMode, repeatBy, eventBy}
 use Rattle.keyparts.specs.View.{fit}
 use Rattle.keyparts.proofs.Ranges.{take-map, fit-take}
 use Rattle.mapparts.specs.View.{Reads, readMark, readRepeat, readEvent}
-use Rattle.mapparts.proofs.Reading.{then, gives, gives-as, Left, left-more}
+use Rattle.mapparts.proofs.Reading.{then, gives, gives-as, Left, left-more, left-none}
 
 module _ (x y : Result (List ℕ)) (v : ℕ) where
   -- ---- what may be missing
@@ -90,15 +90,16 @@ module _ (x y : Result (List ℕ)) (v : ℕ) where
 
 -- ---- lists in arrays
 
--- a loop that stored n values stored the list
-pub whole : (i n : ℕ) (xs : List ℕ) → i ≤ n → n ≤ i → n ≤ length xs → take i xs ≡ fit 0 n xs
-whole i n xs h k l = let e : i ≡ n = omega arith in ap (λ k. take k xs) e ∙ sym (fit-take 0 n xs l)
+-- a count was read, and a loop made as many turns: what it kept after so many is the list
+pub list-read : {A : Type 0} {x y z : Result (List ℕ)} {r : Reader A} {n : ℕ} (most : ℕ) (l : ℕ → List A) (i : ℕ) → Reads x (upTo most) n y → Left y r n (n - i) (l i) z → i ≤ n → n ≤ i
+    → Reads x (listOf most r) (l n) z
+list-read {y = y} {z = z} {r = r} {n = n} most l i c h p q =
+    let e : i ≡ n = omega arith in
+    then (λ n. times n r) c (left-none (omega arith) (subst (λ i. Left y r n (n - i) (l i) z) e h))
 
+-- the first n of an array, as the list that was read
 pub fit-map : {A B : Type 0} (f : A → B) (d : B) (n : ℕ) (xs : List A) → n ≤ length xs → fit d n (map f xs) ≡ map f (take n xs)
 fit-map f d n xs h = fit-take d n (map f xs) (rw (length-map xs f) h) ∙ take-map f n xs
-
-pub whole-map : {A B : Type 0} (f : A → B) (d : B) (i n : ℕ) (xs : List A) → i ≤ n → n ≤ i → n ≤ length xs → map f (take i xs) ≡ fit d n (map f xs)
-whole-map f d i n xs h k l = let e : i ≡ n = omega arith in ap (λ k. map f (take k xs)) e ∙ sym (fit-map f d n xs l)
 
 module _ {A B : Type 0} (f : A → B) where
   pub map-set : (xs : List A) (i : ℕ) (a : A) → i < length xs → map f (take (i + 1) (set xs i a)) ≡ map f (take i xs) ++ f a ∷ []

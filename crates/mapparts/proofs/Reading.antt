@@ -10,9 +10,9 @@ use lib.ListN.{drop}
 use Rattle.rules.specs.Basics.{Result, accept, refuse, _>>=_, unless}
 use Rattle.rules.specs.Numbers.{number}
 use Rattle.rules.specs.MapFile.{Reader, thenRead, give, such, times}
-use Rattle.mapparts.specs.declared.cursor.Cursor.{Cursor}
-use Rattle.keypairs.specs.View.{outcome}
-use Rattle.mapparts.specs.View.{cursorOf, with, Reads}
+use Rattle.mapparts.specs.declared.place.FilePlace.{FilePlace}
+use Rattle.keyparts.specs.View.{outcome}
+use Rattle.mapparts.specs.View.{placeOf, with, Reads}
 
 -- ---- one reader after another
 
@@ -55,42 +55,42 @@ module _ {A B D : Type 0} where
 
 -- ---- places
 
-module _ {A : Type 0} (s : List ℕ) (c : Cursor) (r : Reader A) (a : A) where
-  pub stays : (c .refusal ≡ 0 → ⊥) → Reads (cursorOf s c) r a (cursorOf s c)
-  unfolding cursorOf
+module _ {A : Type 0} (s : List ℕ) (c : FilePlace) (r : Reader A) (a : A) where
+  pub stays : (c .refusal ≡ 0 → ⊥) → Reads (placeOf s c) r a (placeOf s c)
+  unfolding placeOf outcome
   stays h = record { is = go (c .refusal) h }
     where
       go : (n : ℕ) → (n ≡ 0 → ⊥) → with a (outcome n (drop (c .at) s)) ≡ (outcome n (drop (c .at) s) >>= r)
       go zero h = absurd (h refl)
       go (suc n) h = refl
 
-  pub goes : (next : ℕ) → c .refusal ≡ 0 → accept (a, drop next s) ≡ r (drop (c .at) s) → Reads (cursorOf s c) r a (cursorOf s (record { at = next; refusal = 0 }))
-  unfolding cursorOf
+  pub goes : (next : ℕ) → c .refusal ≡ 0 → accept (a, drop next s) ≡ r (drop (c .at) s) → Reads (placeOf s c) r a (placeOf s (record { at = next; refusal = 0 }))
+  unfolding placeOf outcome
   goes next h e = record { is = e ∙ sym (ap (λ n. outcome n (drop (c .at) s) >>= r) h) }
 
-  pub stops : (at n : ℕ) → c .refusal ≡ 0 → refuse (suc n) ≡ r (drop (c .at) s) → Reads (cursorOf s c) r a (cursorOf s (record { at = at; refusal = suc n }))
-  unfolding cursorOf
+  pub stops : (at n : ℕ) → c .refusal ≡ 0 → refuse (suc n) ≡ r (drop (c .at) s) → Reads (placeOf s c) r a (placeOf s (record { at = at; refusal = suc n }))
+  unfolding placeOf outcome
   stops at n h e = record { is = e ∙ sym (ap (λ n. outcome n (drop (c .at) s) >>= r) h) }
 
 -- ---- ranges
 
-module _ (s : List ℕ) (p : ℕ → Bool) (v : ℕ) (x : Result (List ℕ)) (c : Cursor) where
+module _ (s : List ℕ) (p : ℕ → Bool) (v : ℕ) (x : Result (List ℕ)) (c : FilePlace) where
   abbrev tested : ℕ → Reader ℕ
   tested n = λ bs. unless (p n) 1 (accept (n, bs))
 
-  pub in-range : Reads x number v (cursorOf s c) → p v ≡ true → Reads x (such p) v (cursorOf s c)
-  in-range h e = then tested h (record { is = go (cursorOf s c) })
+  pub in-range : Reads x number v (placeOf s c) → p v ≡ true → Reads x (such p) v (placeOf s c)
+  in-range h e = then tested h (record { is = go (placeOf s c) })
     where
       go : (y : Result (List ℕ)) → with v y ≡ (y >>= tested v)
       go (accept bs) = sym (ap (λ t. unless t 1 (accept (v, bs))) e)
       go (refuse n) = refl
 
-  pub out-of-range : Reads x number v (cursorOf s c) → p v ≡ false → c .refusal ≡ 0 → Reads x (such p) 0 (cursorOf s (record { at = c .at; refusal = 1 }))
-  unfolding cursorOf
+  pub out-of-range : Reads x number v (placeOf s c) → p v ≡ false → c .refusal ≡ 0 → Reads x (such p) 0 (placeOf s (record { at = c .at; refusal = 1 }))
+  unfolding placeOf outcome
   out-of-range h e k = then tested h (record { is = sym (ap (λ n. outcome n (drop (c .at) s) >>= tested v) k ∙ ap (λ t. unless t 1 (accept (v, drop (c .at) s))) e) })
 
   -- a refused place has read nothing of the kind, whatever its range
-  pub range-refused : Reads x number v (cursorOf s c) → (c .refusal ≡ 0 → ⊥) → Reads x (such p) 0 (cursorOf s c)
+  pub range-refused : Reads x number v (placeOf s c) → (c .refusal ≡ 0 → ⊥) → Reads x (such p) 0 (placeOf s c)
   range-refused h k = then tested h (stays s c (tested v) 0 k)
 
 -- ---- as many as a count says

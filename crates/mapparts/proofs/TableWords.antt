@@ -85,8 +85,3 @@ module _ {x y z : Result (List ℕ)} {r : Reader ModeEntry} {n : ℕ} (i : ℕ) 
   row-stored h p l k e =
       subst (λ bs. Left x r n (n - (i + 1)) (map entryOf (take (i + 1) bs)) z) (sym (blocks-set3 16 ws i a b c (omega arith) (omega arith)))
       (stored entryOf i (blocks 3 16 ws) (a ∷ b ∷ c ∷ []) h p l (rw (length-blocks 3 16 ws) (omega arith)))
-
--- ---- a loop that stored n words stored the table
-
-pub all-taken : {A B : Type 0} (f : A → B) (i n : ℕ) (xs : List A) → i ≤ n → n ≤ i → map f (take i xs) ≡ map f (take n xs)
-all-taken f i n xs h k = let e : i ≡ n = omega arith in ap (λ k. map f (take k xs)) e

@@ -9,10 +9,10 @@ use Rattle.rules.specs.Basics.{Result, accept, refuse, _>>=_}
 use Rattle.rules.specs.Values.{Event, Repeat}
 use Rattle.rules.specs.Numbers.{number}
 use Rattle.rules.specs.MapFile.{Reader, thenRead, give, upTo, optionalMark, repeatBy, eventBy}
-use Rattle.keypairs.specs.View.{outcome}
+use Rattle.keyparts.specs.View.{outcome}
 use Rattle.mapparts.specs.declared.number.Read.{Read}
 use Rattle.mapparts.specs.declared.number.Read.the-variants.{Number, Bad}
-use Rattle.mapparts.specs.declared.cursor.Cursor.{Cursor}
+use Rattle.mapparts.specs.declared.place.FilePlace.{FilePlace}
 
 -- a number and the bytes from the place after it on, or 9
 abbrev pub readOf : List ℕ → Read → Result (ℕ × List ℕ)
@@ -20,8 +20,8 @@ readOf s (Number value next) = accept (value, drop next s)
 readOf s Bad = refuse 9
 
 -- the bytes that are left, or the refusal
-unfoldable pub cursorOf : List ℕ → Cursor → Result (List ℕ)
-cursorOf s c = outcome (c .refusal) (drop (c .at) s)
+unfoldable pub placeOf : List ℕ → FilePlace → Result (List ℕ)
+placeOf s c = outcome (c .refusal) (drop (c .at) s)
 
 -- a value beside the bytes that are left
 abbrev pub with : {A : Type 0} → A → Result (List ℕ) → Result (A × List ℕ)

@@ -3,10 +3,10 @@
 // that is public asks anything of its arguments.
 //
 // A part is read at a place that carries the refusal met on the way, so parts are read in a row with no test between them.
-pub mod cursor;
 pub mod keys;
 pub mod list;
 pub mod number;
 pub mod part;
+pub mod place;
 pub mod step;
 pub mod tables;

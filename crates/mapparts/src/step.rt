@@ -1,31 +1,31 @@
 // Steps.
-use crate::cursor::Cursor;
 use crate::list;
+use crate::place::FilePlace;
 use keyparts::step::Step;
 ghost use mathlib.Core.Path.{_≡_};
 ghost use Rattle.rules.specs.MapFile.{readStep};
 ghost use Rattle.keyparts.specs.View.{wholeStep};
-ghost use Rattle.mapparts.specs.View.{cursorOf, Reads};
+ghost use Rattle.mapparts.specs.View.{placeOf, Reads};
 
 pub struct StepRead {
     pub step: Step,
-    pub cursor: Cursor,
+    pub place: FilePlace,
 }
 
 // Flag, list, next mode, fallthrough, mark.
-pub fn read_step(s: &[u8], from: Cursor) -> StepRead
-    ensures { λ r. ⌜ Reads (cursorOf (now (s .entry)) from) readStep (wholeStep (r .step)) (cursorOf (now (s .entry)) (r .cursor)) ⌝ }
+pub fn read_step(s: &[u8], from: FilePlace) -> StepRead
+    ensures { λ r. ⌜ Reads (placeOf (now (s .entry)) from) readStep (wholeStep (r .step)) (placeOf (now (s .entry)) (r .place)) ⌝ }
 {
     let flag = from.up_to(s, 1);
-    let a = flag.cursor;
+    let a = flag.place;
     let actions = list::read_actions(s, a);
-    let b = actions.cursor;
+    let b = actions.place;
     let next = list::read_optional_mode(s, b);
-    let c = next.cursor;
+    let c = next.place;
     let fall = list::read_optional_mode(s, c);
-    let d = fall.cursor;
+    let d = fall.place;
     let mark = list::read_mark(s, d);
-    let e = mark.cursor;
+    let e = mark.place;
     let does = actions.actions;
     let to = next.value;
     let falls = fall.value;
@@ -39,6 +39,6 @@ pub fn read_step(s: &[u8], from: Cursor) -> StepRead
             fallthrough: falls,
             mark: sets,
         },
-        cursor: e,
+        place: e,
     }
 }

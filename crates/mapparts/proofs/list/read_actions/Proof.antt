@@ -1,20 +1,21 @@
 -- The count is read first, and each turn reads one number of those that are left and stores it behind the others.
 use Prim.Native.Nat.{_-_, _≤_}
 use native.Mathlib.Omega.{arith}
-use mathlib.Core.Path.{_≡_, subst}
+use mathlib.Core.Path.{_≡_}
 use lib.ListN.{length, take, length-set}
+use Rattle.rules.specs.Values.{mostActions}
 use Rattle.rules.specs.Numbers.{number}
-use Rattle.rules.specs.MapFile.{times}
-use Rattle.mapparts.specs.View.{cursorOf, Reads}
-use Rattle.mapparts.proofs.Reading.{Left, left-all, left-none, then}
-use Rattle.mapparts.proofs.Parts.{kept, whole}
+use Rattle.mapparts.specs.View.{placeOf}
+use Rattle.mapparts.proofs.Reading.{Left, left-all, as-made}
+use Rattle.mapparts.proofs.Parts.{kept, list-read}
+use Rattle.keyparts.proofs.Ranges.{fit-take}
 use borrow.Author.Needs.{needs}
 use Rattle.mapparts.proofs.list.read_actions.Statement.{statement}
 use Rattle.mapparts.proofs.list.read_actions.Tie as tie
 
 abbrev Inv-loop : tie.InvT-loop
 Inv-loop s count at₀ actions₀ i₀ at actions i =
-    (i ≤ count) × (length actions ≡ 4) × Left (cursorOf s at₀) number count (count - i) (take i actions) (cursorOf s at)
+    (i ≤ count) × (length actions ≡ 4) × Left (placeOf s at₀) number count (count - i) (take i actions) (placeOf s at)
 
 abbrev μ-loop : tie.MeasureT-loop
 μ-loop s count at₀ actions₀ i₀ at actions i = count - i
@@ -47,10 +48,11 @@ loop-again : tie.Need-loop-again Inv-loop μ-loop
 loop-again c = (omega arith, simp length-set (omega arith), kept (c .before .before .before .loop .i) (c .before .before .before .loop .actions) _ (c .before .before .before .loop .inv .2) (c .before .number .ensures) (omega arith) (omega arith))
 
 returns : tie.Need-returns Inv-loop μ-loop
-returns c =
-    let s = c .before .before .before .before .before .args .s .now in
-    let n = c .before .before .before .up-to .result .value in
-    ((c .before .before .before .up-to .ensures .0, c .before .loop .inv .1), then (λ n. times n number) (c .before .before .before .up-to .ensures .1) (subst (λ l. Reads (cursorOf s (c .before .before .before .up-to .result .cursor)) (times n number) l (cursorOf s (c .before .loop .at))) (whole (c .before .loop .i) n (c .before .loop .actions) (omega arith) (omega arith) (omega arith)) (left-none (omega arith) (c .before .loop .inv .2))))
+returns c = (
+  (c .before .before .before .up-to .ensures .0, c .before .loop .inv .1),
+  as-made (fit-take 0 (c .before .before .before .up-to .result .value) (c .before .loop .actions) (omega arith))
+      (list-read mostActions (λ n. take n (c .before .loop .actions)) (c .before .loop .i) (c .before .before .before .up-to .ensures .1) (c .before .loop .inv .2) (omega arith) (omega arith)),
+)
 
 pub read-actions-spec : {M : Type 1} → statement M
 read-actions-spec =

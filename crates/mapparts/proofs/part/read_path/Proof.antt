@@ -1,21 +1,22 @@
 -- The count is read first, and each turn reads one part of those that are left and stores it behind the others.
 use Prim.Native.Nat.{_-_, _≤_}
 use native.Mathlib.Omega.{arith}
-use mathlib.Core.Path.{_≡_, subst}
+use mathlib.Core.Path.{_≡_}
 use mathlib.Core.List.{map}
 use lib.ListN.{length, take, length-set}
-use Rattle.rules.specs.MapFile.{times, readPart}
+use Rattle.rules.specs.Values.{mostParts}
+use Rattle.rules.specs.MapFile.{readPart}
 use Rattle.keyparts.specs.View.{partOf, noPart}
-use Rattle.mapparts.specs.View.{cursorOf, Reads}
-use Rattle.mapparts.proofs.Reading.{Left, left-all, left-none, then}
-use Rattle.mapparts.proofs.Parts.{stored, whole-map}
+use Rattle.mapparts.specs.View.{placeOf}
+use Rattle.mapparts.proofs.Reading.{Left, left-all, as-made}
+use Rattle.mapparts.proofs.Parts.{stored, list-read, fit-map}
 use borrow.Author.Needs.{needs}
 use Rattle.mapparts.proofs.part.read_path.Statement.{statement}
 use Rattle.mapparts.proofs.part.read_path.Tie as tie
 
 abbrev Inv-loop : tie.InvT-loop
 Inv-loop s count at₀ parts₀ i₀ at parts i =
-    (i ≤ count) × (length parts ≡ 32) × Left (cursorOf s at₀) readPart count (count - i) (map partOf (take i parts)) (cursorOf s at)
+    (i ≤ count) × (length parts ≡ 32) × Left (placeOf s at₀) readPart count (count - i) (map partOf (take i parts)) (placeOf s at)
 
 abbrev μ-loop : tie.MeasureT-loop
 μ-loop s count at₀ parts₀ i₀ at parts i = count - i
@@ -49,9 +50,8 @@ loop-again c = (omega arith, simp length-set (omega arith), stored partOf (c .be
 
 returns : tie.Need-returns Inv-loop μ-loop
 returns c =
-    let s = c .before .before .before .before .before .args .s .now in
-    let n = c .before .before .before .up-to .result .value in
-    then (λ n. times n readPart) (c .before .before .before .up-to .ensures .1) (subst (λ l. Reads (cursorOf s (c .before .before .before .up-to .result .cursor)) (times n readPart) l (cursorOf s (c .before .loop .at))) (whole-map partOf noPart (c .before .loop .i) n (c .before .loop .parts) (omega arith) (omega arith) (omega arith)) (left-none (omega arith) (c .before .loop .inv .2)))
+    as-made (fit-map partOf noPart (c .before .before .before .up-to .result .value) (c .before .loop .parts) (omega arith))
+    (list-read mostParts (λ n. map partOf (take n (c .before .loop .parts))) (c .before .loop .i) (c .before .before .before .up-to .ensures .1) (c .before .loop .inv .2) (omega arith) (omega arith))
 
 pub read-path-spec : {M : Type 1} → statement M
 read-path-spec =

@@ -1,21 +1,23 @@
 -- The count is read first, and each turn reads one entry of those that are left and stores its three words.
 use Prim.Native.Nat.{_-_, _≤_}
 use native.Mathlib.Omega.{arith}
-use mathlib.Core.Path.{_≡_, sym}
+use mathlib.Core.Path.{_≡_}
 use mathlib.Core.List.{map}
 use lib.ListN.{length, take, length-set}
-use Rattle.rules.specs.MapFile.{times, readMode}
+use Rattle.rules.specs.Values.{modeCount}
+use Rattle.rules.specs.MapFile.{readMode}
 use Rattle.keypairs.specs.View.{entryOf, blocks}
-use Rattle.mapparts.specs.View.{cursorOf}
-use Rattle.mapparts.proofs.Reading.{Left, left-all, left-none, then, as-made}
-use Rattle.mapparts.proofs.TableWords.{row-stored, all-taken}
+use Rattle.mapparts.specs.View.{placeOf}
+use Rattle.mapparts.proofs.Reading.{Left, left-all}
+use Rattle.mapparts.proofs.Parts.{list-read}
+use Rattle.mapparts.proofs.TableWords.{row-stored}
 use borrow.Author.Needs.{needs}
 use Rattle.mapparts.proofs.tables.read_modes.Statement.{statement}
 use Rattle.mapparts.proofs.tables.read_modes.Tie as tie
 
 abbrev Inv-loop : tie.InvT-loop
 Inv-loop s count at₀ words₀ i₀ at words i =
-    (i ≤ count) × (length words ≡ 48) × Left (cursorOf s at₀) readMode count (count - i) (map entryOf (take i (blocks 3 16 words))) (cursorOf s at)
+    (i ≤ count) × (length words ≡ 48) × Left (placeOf s at₀) readMode count (count - i) (map entryOf (take i (blocks 3 16 words))) (placeOf s at)
 
 abbrev μ-loop : tie.MeasureT-loop
 μ-loop s count at₀ words₀ i₀ at words i = count - i
@@ -70,8 +72,7 @@ loop-again c =
     (omega arith, simp length-set (omega arith), row-stored (c .before .before .before .loop .i) (c .before .before .before .loop .words) _ _ _ (c .before .before .before .loop .inv .2) (c .before .read-mode .ensures) (omega arith) (omega arith) (omega arith))
 
 returns : tie.Need-returns Inv-loop μ-loop
-returns c =
-    then (λ n. times n readMode) (c .before .before .before .up-to .ensures .1) (as-made (sym (all-taken entryOf (c .before .loop .i) (c .before .before .before .up-to .result .value) (blocks 3 16 (c .before .loop .words)) (omega arith) (omega arith))) (left-none (omega arith) (c .before .loop .inv .2)))
+returns c = list-read modeCount (λ n. map entryOf (take n (blocks 3 16 (c .before .loop .words)))) (c .before .loop .i) (c .before .before .before .up-to .ensures .1) (c .before .loop .inv .2) (omega arith) (omega arith)
 
 pub read-modes-spec : {M : Type 1} → statement M
 read-modes-spec =

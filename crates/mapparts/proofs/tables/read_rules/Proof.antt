@@ -1,22 +1,22 @@
 -- The count is read first, and each turn reads one rule of those that are left and stores its word.
 use Prim.Native.Nat.{_-_, _≤_}
 use native.Mathlib.Omega.{arith}
-use mathlib.Core.Path.{_≡_, sym}
+use mathlib.Core.Path.{_≡_}
 use mathlib.Core.List.{map}
 use lib.ListN.{length, take, length-set}
-use Rattle.rules.specs.MapFile.{times, readRule}
+use Rattle.rules.specs.Values.{mostRules}
+use Rattle.rules.specs.MapFile.{readRule}
 use Rattle.keypairs.specs.View.{ruleOf}
-use Rattle.mapparts.specs.View.{cursorOf}
-use Rattle.mapparts.proofs.Reading.{Left, left-all, left-none, then, as-made}
-use Rattle.mapparts.proofs.Parts.{stored}
-use Rattle.mapparts.proofs.TableWords.{all-taken}
+use Rattle.mapparts.specs.View.{placeOf}
+use Rattle.mapparts.proofs.Reading.{Left, left-all}
+use Rattle.mapparts.proofs.Parts.{stored, list-read}
 use borrow.Author.Needs.{needs}
 use Rattle.mapparts.proofs.tables.read_rules.Statement.{statement}
 use Rattle.mapparts.proofs.tables.read_rules.Tie as tie
 
 abbrev Inv-loop : tie.InvT-loop
 Inv-loop s count at₀ words₀ i₀ at words i =
-    (i ≤ count) × (length words ≡ 64) × Left (cursorOf s at₀) readRule count (count - i) (map ruleOf (take i words)) (cursorOf s at)
+    (i ≤ count) × (length words ≡ 64) × Left (placeOf s at₀) readRule count (count - i) (map ruleOf (take i words)) (placeOf s at)
 
 abbrev μ-loop : tie.MeasureT-loop
 μ-loop s count at₀ words₀ i₀ at words i = count - i
@@ -49,8 +49,7 @@ loop-again : tie.Need-loop-again Inv-loop μ-loop
 loop-again c = (omega arith, simp length-set (omega arith), stored ruleOf (c .before .before .before .loop .i) (c .before .before .before .loop .words) _ (c .before .before .before .loop .inv .2) (c .before .read-rule .ensures) (omega arith) (omega arith))
 
 returns : tie.Need-returns Inv-loop μ-loop
-returns c =
-    then (λ n. times n readRule) (c .before .before .before .up-to .ensures .1) (as-made (sym (all-taken ruleOf (c .before .loop .i) (c .before .before .before .up-to .result .value) (c .before .loop .words) (omega arith) (omega arith))) (left-none (omega arith) (c .before .loop .inv .2)))
+returns c = list-read mostRules (λ n. map ruleOf (take n (c .before .loop .words))) (c .before .loop .i) (c .before .before .before .up-to .ensures .1) (c .before .loop .inv .2) (omega arith) (omega arith)
 
 pub read-rules-spec : {M : Type 1} → statement M
 read-rules-spec =
