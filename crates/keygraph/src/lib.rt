@@ -14,6 +14,7 @@ mod repeat;
 
 pub use keyparts::answer;
 pub use keyparts::class;
+pub use keyparts::copy;
 pub use keyparts::edge;
 pub use keyparts::event;
 pub use keyparts::find;

@@ -14,8 +14,9 @@ use Rattle.rules.specs.Graph.{Graph, addMapping, addPrefix}
 use Rattle.rules.specs.KeyLoop.{Tracker, State, at, withQueue, KeyResult, Input, inputKey, gotoMode, resetMode, freshShared}
 use Rattle.rules.specs.KeyLoop as key
 use Rattle.rules.specs.Calls.{Machine, Answer, Accepted, Refused, Pressed, PressRefused, Popped, Nothing, withBindings, withState, withShared, fresh, open-with, settled, pressed, popped, map-call, prefix-call, key-call, reset-call, call, Open, Map, Prefix, Press, Pop, Reset, graphKind, graphNavigator}
-use Rattle.keygraph.specs.View as kg
-use Rattle.keypairs.specs.View.{outcome, pairOf, pairsOf, broke, shared}
+use Rattle.keyparts.specs.View as kg
+use Rattle.keyparts.specs.View.{outcome}
+use Rattle.keypairs.specs.View.{pairOf, pairsOf, broke, shared}
 use Rattle.keyloop.proofs.Lists.{drop-take, take-min}
 
 -- ---- open
@@ -33,14 +34,6 @@ opened s m t b e h em = ap (λ (x : Machine graphKind). (x, Accepted)) em ∙ op
 
 pub not-opened : (s m : Machine graphKind) (t : Tables) (b : Bool) → b ≡ tablesValid t → b ≡ false → m ≡ s → (m, Refused 1) ≡ call graphKind s (Open t)
 not-opened s m t b e h em = ap (λ (x : Machine graphKind). (x, Refused 1)) em ∙ open-bad s t (sym e ∙ h)
-
--- other tables under the same state
-abbrev pub withTables : Machine graphKind → Tables → Machine graphKind
-withTables s t = withShared graphKind s (record { tables = t; mode = s .state .shared .mode; context = s .state .shared .context; queue = s .state .shared .queue; trail = s .state .shared .trail; sequences = s .state .shared .sequences })
-
-pub retabled : (s : Machine graphKind) (old t u : Tables) → s ≡ fresh graphKind old → t ≡ u → withTables s t ≡ fresh graphKind u
-unfolding fresh freshShared
-retabled s old t u e et = rw (e, et)
 
 -- ---- map and prefix
 
@@ -66,7 +59,7 @@ prefixed s g a mode ps st e = bound s g a _ e
 
 module _ (s : Machine graphKind) (i : Input) (R n : ℕ) (x : State ℕ) (e : _≡_ {A = KeyResult ℕ} (record { rounds = R; result = outcome n x }) (inputKey (graphNavigator (s .bindings)) i (s .state))) where
   pub press-refused : (n ≡ 0 → ⊥) → (s, PressRefused n R) ≡ call graphKind s (Press i)
-  unfolding call key-call pressed
+  unfolding call key-call pressed outcome
   press-refused h = rw (← e) (pick n h)
     where
       pick : (n : ℕ) → (n ≡ 0 → ⊥) → (s, PressRefused n R) ≡ pressed graphKind s R (outcome n x)
@@ -74,7 +67,7 @@ module _ (s : Machine graphKind) (i : Input) (R n : ℕ) (x : State ℕ) (e : _�
       pick (suc n) h = refl
 
   pub press-done : n ≡ 0 → (withState graphKind s x, Pressed R) ≡ call graphKind s (Press i)
-  unfolding call key-call pressed
+  unfolding call key-call pressed outcome
   press-done h = rw (← e, h)
 
 -- ---- pop
@@ -112,7 +105,7 @@ module _ (s : Machine graphKind) (queued n : ℕ) (ws : List ℕ) (eq : s .state
 
 module _ (s : Machine graphKind) (n : ℕ) (x : State ℕ) (e : outcome n x ≡ resetMode (graphNavigator (s .bindings)) (s .state)) where
   pub reset-refused : (n ≡ 0 → ⊥) → (s, Refused n) ≡ call graphKind s Reset
-  unfolding call settled reset-call
+  unfolding call settled reset-call outcome
   reset-refused h = rw (← e) (pick n h)
     where
       pick : (n : ℕ) → (n ≡ 0 → ⊥) → (s, Refused n) ≡ settled graphKind s (outcome n x >>= λ m. accept (withState graphKind s m))
@@ -120,7 +113,7 @@ module _ (s : Machine graphKind) (n : ℕ) (x : State ℕ) (e : outcome n x ≡ 
       pick (suc n) h = refl
 
   pub reset-done : n ≡ 0 → (withState graphKind s x, Accepted) ≡ call graphKind s Reset
-  unfolding call settled reset-call
+  unfolding call settled reset-call outcome
   reset-done h = rw (← e, h)
 
 pub reset-is : (g : Graph) (r : Result (State ℕ)) (place mode : ℕ) (t : Tables) (x : Context) (q : List Pair) (tr : List ℕ) (ts ts' : List Tracker) → ts' ≡ map broke ts

@@ -1,20 +1,29 @@
 -- What a machine by value and its answers mean, in the values of the rules.
+use Prim.Native.Nat.{ℕ}
 use lib.ListN.{take}
+use Rattle.rules.specs.Tables.{Tables}
+use Rattle.rules.specs.Graph.{Graph}
+use Rattle.rules.specs.KeyLoop.{State}
 use Rattle.rules.specs.Calls as c
-use Rattle.keygraph.specs.View.{graphOf}
-use Rattle.keypairs.specs.View.{pairBy, wordsOf, stateOf}
+use Rattle.keyparts.specs.View.{graphOf}
+use Rattle.keypairs.specs.View.{pairBy, tablesIn, stateOf}
 use Rattle.keymachine.specs.declared.machine.ModalMachine.{ModalMachine}
-use Rattle.keymachine.specs.declared.machine.Pressed.{Pressed}
-use Rattle.keymachine.specs.declared.machine.Pressed.the-variants.{Accepted, Refused}
-use Rattle.keymachine.specs.declared.machine.Waiting.{Waiting}
-use Rattle.keymachine.specs.declared.machine.Waiting.the-variants.{Pair as PairOf, Nothing as NothingWaits}
+use Rattle.keymachine.specs.declared.live.Live.{Live}
+use Rattle.keymachine.specs.declared.live.Pressed.{Pressed}
+use Rattle.keymachine.specs.declared.live.Pressed.the-variants.{Accepted, Refused}
+use Rattle.keymachine.specs.declared.live.Waiting.{Waiting}
+use Rattle.keymachine.specs.declared.live.Waiting.the-variants.{Pair as PairOf, Nothing as NothingWaits}
 
--- a count above an array's length is the whole array, so that every value of the struct is some machine
+-- a count above an array's length is the whole array, so that every value of the struct is some live state
+abbrev pub liveOf : Tables → Live → State ℕ
+liveOf t l = stateOf (l .state) t (l .queue) (l .sequences) (take (l .state .trailed) (l .trail))
+
+-- the live state over a map
+abbrev pub machineBy : Graph → Tables → Live → c.Machine c.graphKind
+machineBy g t l = record { bindings = g; state = liveOf t l }
+
 abbrev pub machineOf : ModalMachine → c.Machine c.graphKind
-machineOf m = record {
-  bindings = graphOf (m .graph);
-  state = stateOf (m .state) (wordsOf (m .tables)) (m .queue) (m .sequences) (take (m .trailed) (m .trail));
-}
+machineOf m = machineBy (graphOf (m .map .graph)) (tablesIn (m .map .tables .words)) (m .live)
 
 abbrev pub pressOf : Pressed → c.Answer
 pressOf (Accepted rounds) = c.Pressed rounds

@@ -2,9 +2,10 @@
 // rules' `call` on what the machine means, by the views of specs/View.antt; find and hint to what the rules leave free.
 //
 // The key loop, and what a machine keeps and is opened with, stand in the crates below and are handed on from here.
+pub mod live;
 pub mod machine;
+pub mod scanner;
 
-pub use keyloop::key;
 pub use keypairs::context;
 pub use keypairs::pair;
 pub use keypairs::rule;
