@@ -104,10 +104,16 @@ impl ModalMachine {
         let r = mapping::add_mapping(g, mode, path, step);
         let graph = r.graph;
         let answer = r.answer;
-        let mut m = self;
-        m.map.graph = graph;
+        let tables = self.map.tables;
+        let live = self.live;
         CallResult {
-            machine: m,
+            machine: ModalMachine {
+                map: Map {
+                    graph: graph,
+                    tables: tables,
+                },
+                live: live,
+            },
             answer: answer,
         }
     }
@@ -120,10 +126,16 @@ impl ModalMachine {
         let r = prefix::add_prefix(g, mode, path, chosen, step);
         let graph = r.graph;
         let answer = r.answer;
-        let mut m = self;
-        m.map.graph = graph;
+        let tables = self.map.tables;
+        let live = self.live;
         CallResult {
-            machine: m,
+            machine: ModalMachine {
+                map: Map {
+                    graph: graph,
+                    tables: tables,
+                },
+                live: live,
+            },
             answer: answer,
         }
     }

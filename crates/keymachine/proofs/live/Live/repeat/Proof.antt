@@ -4,21 +4,26 @@ use mathlib.Core.Path.{_≡_, refl, sym, ap, _∙_}
 use mathlib.Core.List.{List, _++_}
 use native.Mathlib.Omega.{arith}
 use lib.ListN.{length, drop, getD}
-use lib.Seq.{paste}
+use lib.Seq.{paste, length-paste}
 use Rattle.rules.specs.KeyLoop.{Tracker, noTracker, fetch}
+use Rattle.keyparts.specs.View.{copied}
+use Rattle.keyparts.proofs.Copies.{copied-fits}
 use Rattle.keypairs.specs.View.{overOf, pairsOf, trackersOf}
 use Rattle.keypairs.proofs.Sequences.{length-pairs}
-use Rattle.keymachine.specs.View.{machineOf}
+use Rattle.keymachine.specs.View.{machineBy}
 use Rattle.keymachine.proofs.Repeats.{repeat-over, repeat-full, repeat-done, fetched-sequences, fetched-long, fetched-few, built-queue}
 use borrow.Author.Needs.{needs}
-use Rattle.keymachine.proofs.machine.ModalMachine.repeat.Statement.{statement}
-use Rattle.keymachine.proofs.machine.ModalMachine.repeat.Tie as tie
+use Rattle.keymachine.proofs.live.Live.repeat.Statement.{statement}
+use Rattle.keymachine.proofs.live.Live.repeat.Tie as tie
 
 returns : tie.Need-returns
-returns c = let a = c .before .args in repeat-over (machineOf (a .self)) (a .sequence) (overOf (a .over)) (c .if1 .taken)
+returns c g t = let a = c .before .args in repeat-over (machineBy g t (a .self)) (a .sequence) (overOf (a .over)) (c .if1 .taken)
 
 fetch-at-requires : tie.Need-fetch-at-requires
 fetch-at-requires c κs = search needs
+
+cast-least-of : tie.Need-cast-least-of
+cast-least-of c = search needs
 
 least-of-requires : tie.Need-least-of-requires
 least-of-requires c κs = search needs
@@ -35,8 +40,8 @@ add-queued : tie.Need-add-queued
 add-queued c = omega (arith, few (c .before), c .least-of .ensures)
 
 returns-2 : tie.Need-returns-2
-returns-2 c = let a = c .before .before .before .before .before .before .before .args in let m = a .self in let q = a .sequence in let o = overOf (a .over) in let f = c .before .before .fetch-at in let k = c .before .least-of in let s = long (c .before .before .before) in let h : q < 8 = c .before .before .before .before .before .before .if1 .left in
-    repeat-full (machineOf m) q o h (fetch o (getD (trackersOf (m .sequences)) q noTracker)) (f .result) (k .result) refl
+returns-2 c g t = let a = c .before .before .before .before .before .before .before .args in let m = a .self in let q = a .sequence in let o = overOf (a .over) in let f = c .before .before .fetch-at in let k = c .before .least-of in let s = long (c .before .before .before) in let h : q < 8 = c .before .before .before .before .before .before .if1 .left in
+    repeat-full (machineBy g t m) q o h (fetch o (getD (trackersOf (m .sequences)) q noTracker)) (f .result) (k .result) refl
     (fetched-long (m .sequences) (f .last .0) q (f .result) o (s .0) (f .ensures .0) h (f .ensures .1))
     (k .ensures ∙ sym (length-pairs (m .state .queued) (m .queue) ∙ ap (min (m .state .queued)) (s .1))) (c .if2 .taken)
 
@@ -59,7 +64,7 @@ cast-copy : tie.Need-cast-copy
 cast-copy c = search needs
 
 copy-requires : tie.Need-copy-requires
-copy-requires c κs = omega (arith, long (c .before .before .before .before .before .before) .1, c .before .before .before .if2 .left)
+copy-requires c κs = search needs
 
 slice-aggregate-copy-3 : tie.Need-slice-aggregate-copy-3
 slice-aggregate-copy-3 c = search needs
@@ -68,20 +73,30 @@ slice-aggregate-copy-4 : tie.Need-slice-aggregate-copy-4
 slice-aggregate-copy-4 c = search needs
 
 copy-requires-2 : tie.Need-copy-requires-2
-copy-requires-2 c κs = let f = c .before .before .before .before .before .before .before .before .before .fetch-at in let n = few (c .before .before .before .before .before .before .before .before .before) in
-    (omega (arith, c .before .before .before .copy .kept .0, long (c .before .before .before .before .before .before .before .before .before .before) .1, n), omega (arith, f .ensures .0, n))
+copy-requires-2 c κs = search needs
+
+-- the queue after both copies: k of its words behind n of the sequence's
+two-copies : (old src : List ℕ) (n k from : ℕ) → length old ≡ 256 → n + k ≤ 256 → from + n ≤ length src → copied (copied old n old 0 k) 0 src from n ≡ paste (paste old n (drop 0 old) k) 0 (drop from src) n
+two-copies old src n k from l h s =
+    let a : n + k ≤ length old = omega (arith, l) in
+    let b : 0 + k ≤ length old = omega (arith, l) in
+    let e = copied-fits old n old 0 k a b in
+    let d : k ≤ length (drop 0 old) = omega (arith, l) in
+    let m : 0 + n ≤ length (paste old n (drop 0 old) k) = omega (arith, l, length-paste old n (drop 0 old) k a d) in
+    ap (λ (z : List ℕ). copied z 0 src from n) e ∙ copied-fits (paste old n (drop 0 old) k) 0 src from n m s
 
 returns-3 : tie.Need-returns-3
-returns-3 c = let a = c .before .before .before .before .before .before .before .before .before .before .before .before .before .before .before .before .before .args in let m = a .self in let q = a .sequence in let o = overOf (a .over) in let f = c .before .before .before .before .before .before .before .before .before .before .before .before .fetch-at in let k = c .before .before .before .before .before .before .before .before .before .before .before .least-of in let s = long (c .before .before .before .before .before .before .before .before .before .before .before .before .before) in let h : q < 8 = c .before .before .before .before .before .before .before .before .before .before .before .before .before .before .before .before .if1 .left in
-    let l : f .result + k .result ≤ 256 = c .before .before .before .before .before .before .before .before .before .before .if2 .left in
-    let t : Tracker = fetch o (getD (trackersOf (m .sequences)) q noTracker) in
-    let e : c .before .before .copy2 .last .0 ≡ paste (paste (m .queue) (f .result) (drop 0 (m .queue)) (k .result)) 0 (drop (q * 65 + 1) (f .last .0)) (f .result)
-    = c .before .before .copy2 .ensures ∙ ap (λ (z : List ℕ). paste z 0 (drop (q * 65 + 1) (f .last .0)) (f .result)) (c .before .before .before .before .before .before .copy .ensures) in
-    let eQ : pairsOf (f .result + k .result) (c .before .before .copy2 .last .0) ≡ t .pairs ++ pairsOf (m .state .queued) (m .queue)
+returns-3 c g t = let a = c .before .before .before .before .before .before .before .before .before .before .before .before .before .before .before .before .args in let m = a .self in let q = a .sequence in let o = overOf (a .over) in let f = c .before .before .before .before .before .before .before .before .before .before .before .fetch-at in let k = c .before .before .before .before .before .before .before .before .before .before .least-of in let s = long (c .before .before .before .before .before .before .before .before .before .before .before .before) in let h : q < 8 = c .before .before .before .before .before .before .before .before .before .before .before .before .before .before .before .if1 .left in
+    let l : f .result + k .result ≤ 256 = c .before .before .before .before .before .before .before .before .before .if2 .left in
+    let u : Tracker = fetch o (getD (trackersOf (m .sequences)) q noTracker) in
+    let r : q * 65 + 1 + f .result ≤ length (f .last .0) = omega (arith, f .ensures .0, few (c .before .before .before .before .before .before .before .before .before .before .before)) in
+    let e : c .before .copy2 .last .0 ≡ paste (paste (m .queue) (f .result) (drop 0 (m .queue)) (k .result)) 0 (drop (q * 65 + 1) (f .last .0)) (f .result)
+    = c .before .copy2 .ensures ∙ ap (λ (z : List ℕ). copied z 0 (f .last .0) (q * 65 + 1) (f .result)) (c .before .before .before .before .before .copy .ensures) ∙ two-copies (m .queue) (f .last .0) (f .result) (k .result) (q * 65 + 1) (s .1) l r in
+    let eQ : pairsOf (f .result + k .result) (c .before .copy2 .last .0) ≡ u .pairs ++ pairsOf (m .state .queued) (m .queue)
     = rw e (built-queue (m .sequences) (f .last .0) q (f .result) o (s .0) (f .ensures .0) h (f .ensures .1) (m .queue) (m .state .queued) (k .result) (s .1) (k .ensures) l) in
-    repeat-done (machineOf m) q o h t (f .result) (k .result) refl
+    repeat-done (machineBy g t m) q o h u (f .result) (k .result) refl
     (fetched-long (m .sequences) (f .last .0) q (f .result) o (s .0) (f .ensures .0) h (f .ensures .1))
-    (k .ensures ∙ sym (length-pairs (m .state .queued) (m .queue) ∙ ap (min (m .state .queued)) (s .1))) (pairsOf (f .result + k .result) (c .before .before .copy2 .last .0)) (trackersOf (f .last .0)) l eQ
+    (k .ensures ∙ sym (length-pairs (m .state .queued) (m .queue) ∙ ap (min (m .state .queued)) (s .1))) (pairsOf (f .result + k .result) (c .before .copy2 .last .0)) (trackersOf (f .last .0)) l eQ
     (fetched-sequences (m .sequences) (f .last .0) q (f .result) o (s .0) (f .ensures .0) h (f .ensures .1))
 
 pub repeat-spec : {M : Type 1} → statement M
@@ -90,6 +105,7 @@ repeat-spec =
     (tie.spec
     returns
     fetch-at-requires
+    cast-least-of
     least-of-requires
     add-queued
     returns-2

@@ -1,6 +1,5 @@
 -- The graph answers as the rules' adding does, and all else of the machine stays.
-use Rattle.keyparts.specs.View.{wholePath, wholeStep, answerOf}
-use Rattle.keygraph.specs.View.{graphOf}
+use Rattle.keyparts.specs.View.{wholePath, wholeStep, answerOf, graphOf}
 use Rattle.keymachine.specs.View.{machineOf}
 use Rattle.keymachine.proofs.Calls.{mapped}
 use borrow.Author.Needs.{needs}
@@ -11,7 +10,7 @@ add-mapping-requires : tie.Need-add-mapping-requires
 add-mapping-requires c κs = search needs
 
 returns : tie.Need-returns
-returns c = let a = c .before .before .before .args in let r = c .before .add-mapping in
+returns c = let a = c .before .before .before .before .before .args in let r = c .before .before .before .add-mapping in
     mapped (machineOf (a .self)) (graphOf (r .result .graph)) (answerOf (r .result .answer)) (a .mode) (wholePath (a .path)) (wholeStep (a .step)) (r .ensures)
 
 pub add-mapping-spec : {M : Type 1} → statement M

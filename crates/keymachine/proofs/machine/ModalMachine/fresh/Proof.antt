@@ -1,9 +1,9 @@
--- Words that are 0 are no pair, eight trackers with nothing in them, and no key on the trail.
-use mathlib.Core.Path.{_≡_, refl}
-use Rattle.rules.specs.Values.{noContext}
-use Rattle.rules.specs.KeyLoop.{noTracker, freshShared}
-use Rattle.rules.specs.Calls.{fresh, graphNavigator}
-use Rattle.keypairs.specs.View.{trackerOf, blocks}
+-- The roots alone, and words that are 0, which are no entry.
+use mathlib.Core.Path.{_≡_, refl, _∙_}
+use Rattle.rules.specs.Tables.{noTables}
+use Rattle.rules.specs.Calls.{fresh}
+use Rattle.keyparts.specs.View.{sizesIn, classWords, modeWords, ruleWords}
+use Rattle.keypairs.specs.View.{tablesIn}
 use borrow.Author.Needs.{needs}
 use Rattle.keymachine.proofs.machine.ModalMachine.fresh.Statement.{statement}
 use Rattle.keymachine.proofs.machine.ModalMachine.fresh.Tie as tie
@@ -14,9 +14,12 @@ fresh-requires c κs = search needs
 empty-requires : tie.Need-empty-requires
 empty-requires c κs = search needs
 
+over-requires : tie.Need-over-requires
+over-requires c κs = search needs
+
 returns : tie.Need-returns
-unfolding fresh freshShared graphNavigator noContext noTracker trackerOf blocks
-returns c = rw (c .before .fresh .ensures, c .empty .ensures)
+unfolding fresh noTables tablesIn sizesIn
+returns c = c .over .ensures ∙ rw (c .before .before .fresh .ensures, c .before .empty .ensures)
 
 pub fresh-spec : {M : Type 1} → statement M
-fresh-spec = tie.close (tie.spec fresh-requires empty-requires returns)
+fresh-spec = tie.close (tie.spec fresh-requires empty-requires over-requires returns)

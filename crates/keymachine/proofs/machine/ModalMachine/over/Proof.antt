@@ -1,0 +1,19 @@
+-- The live state is fresh under whatever tables it is put.
+use Prim.Native.Nat.{ℕ}
+use mathlib.Core.Path.{ap}
+use Rattle.keyparts.specs.View.{graphOf}
+use Rattle.keypairs.specs.View.{tablesIn}
+use Rattle.rules.specs.KeyLoop.{State}
+use Rattle.rules.specs.Calls.{Machine, graphKind}
+use borrow.Author.Needs.{needs}
+use Rattle.keymachine.proofs.machine.ModalMachine.over.Statement.{statement}
+use Rattle.keymachine.proofs.machine.ModalMachine.over.Tie as tie
+
+fresh-requires : tie.Need-fresh-requires
+fresh-requires c κs = search needs
+
+returns : tie.Need-returns
+returns c = let m = c .before .args .map in ap (λ (x : State ℕ). record { bindings = graphOf (m .graph); state = x }) (c .fresh .ensures (tablesIn (m .tables .words)))
+
+pub over-spec : {M : Type 1} → statement M
+over-spec = tie.close (tie.spec fresh-requires returns)
