@@ -1,24 +1,16 @@
 -- What a call leaves and its answer's number, from what it leaves and its answer; and a machine that is opened by a map.
 use Prim.Native.Nat.{ℕ}
-use mathlib.Core.Path.{_≡_, refl, sym, ap, _∙_}
+use mathlib.Core.Path.{_≡_, sym, ap, _∙_}
 use mathlib.Core.List.{List}
-use Rattle.rules.specs.Tables.{Tables, noTables}
-use Rattle.rules.specs.Graph.{Graph}
-use Rattle.rules.specs.Calls.{Machine, graphKind, fresh, settled, Answer}
+use Rattle.rules.specs.Calls.{Machine, graphKind, settled, Answer}
 use Rattle.rules.specs.MapFile.{readMap}
 use Rattle.keyparts.specs.declared.answer.Answer as parts
 use Rattle.keyparts.specs.declared.answer.Answer.the-variants.{Accepted, Refused}
 use Rattle.keyparts.specs.View.{resultBy}
-use Rattle.keymachine.proofs.Calls.{withTables, retabled}
-use Rattle.mapfile.specs.View.{machineBy}
-use Rattle.host.specs.Codes.{codeOf, coded, openMap}
+use Rattle.host.specs.Codes.{answerCode, coded, openMap}
 
-pub numbered : (m : Machine graphKind) (a : Answer) (n : ℕ) (y : Machine graphKind × Answer) → (m, a) ≡ y → n ≡ codeOf a → (m, n) ≡ coded y
+pub numbered : (m : Machine graphKind) (a : Answer) (n : ℕ) (y : Machine graphKind × Answer) → (m, a) ≡ y → n ≡ answerCode a → (m, n) ≡ coded y
 numbered m a n y e en = ap (λ (k : ℕ). (m, k)) en ∙ ap coded e
-
--- the fresh machine under other tables and another graph
-pub remade : (s : Machine graphKind) (g : Graph) (t : Tables) → s ≡ fresh graphKind noTables → machineBy g (withTables s t .state) ≡ machineBy g (fresh graphKind t .state)
-remade s g t e = ap (λ (x : Machine graphKind). machineBy g (x .state)) (retabled s noTables t t e refl)
 
 module _ (m x : Machine graphKind) (a : parts.Answer) (bs : List ℕ) (e : resultBy a x ≡ readMap bs) where
   -- a map that is refused leaves the machine

@@ -5,14 +5,14 @@ use Prim.Native.Nat.{ℕ, _+_, _*_, _/_, _%_, _<_}
 use mathlib.Core.Path.{_≡_, ap, _∙_}
 use Rattle.rules.specs.Values.{pair}
 use Rattle.rules.specs.Calls.{Popped, PressRefused}
-use Rattle.host.specs.Codes.{codeOf}
+use Rattle.host.specs.Codes.{answerCode}
 
-pub press-parts : (n rounds : ℕ) → n < 32 → (codeOf (PressRefused n rounds) / 32 ≡ rounds) × (codeOf (PressRefused n rounds) % 32 ≡ n)
+pub press-parts : (n rounds : ℕ) → n < 32 → (answerCode (PressRefused n rounds) / 32 ≡ rounds) × (answerCode (PressRefused n rounds) % 32 ≡ n)
 press-parts n rounds h = (omega (arith, h), omega (arith, h))
 
 module _ (a c m : ℕ) (ha : a < 65536) (hc : c < 65536) (hm : m < 65536) where
   abbrev w : ℕ
-  w = codeOf (Popped (pair a c m))
+  w = answerCode (Popped (pair a c m))
 
   action-is : w % 65536 ≡ a
   action-is = omega (arith, ha)

@@ -1,28 +1,40 @@
-// The calls that C makes, by value, with their answers as numbers: an enum does not go to C.
+// The calls that C makes, by value on the part that they change, with their answers as numbers: an enum does not go to C.
 use keygraph::answer::Answer;
+use keygraph::graph::Counts;
 use keygraph::graph::Graph;
+use keygraph::tables::TableWords;
+use keymachine::live;
+use keymachine::live::Live;
+use keymachine::live::Pressed;
+use keymachine::live::Waiting;
+use keymachine::machine::Map;
 use keymachine::machine::ModalMachine;
-use keymachine::machine::Pressed;
-use keymachine::machine::Waiting;
-use keymachine::tables::TableWords;
 use mapfile::map;
-use mapfile::map::MapRead;
 ghost use mathlib.Core.Path.{_≡_};
+ghost use lib.ListN.{length};
+ghost use Rattle.rules.specs.Tables.{Tables};
+ghost use Rattle.rules.specs.Graph.{Graph as Bindings};
 ghost use Rattle.rules.specs.Calls.{graphKind, call, Press, Pop, Reset};
-ghost use Rattle.keyparts.specs.View.{answerOf};
-ghost use Rattle.keymachine.specs.View.{machineOf, pressOf, popOf};
-ghost use Rattle.mapfile.specs.View.{mapOf};
-ghost use Rattle.host.specs.Codes.{codeOf, coded, openMap};
+ghost use Rattle.keyparts.specs.View.{answerOf, graphIn};
+ghost use Rattle.keypairs.specs.View.{tablesIn};
+ghost use Rattle.keymachine.specs.View.{machineBy, machineOf, pressOf, popOf};
+ghost use Rattle.host.specs.Codes.{answerCode, coded, openMap};
 
 // The machine after a call, and its answer's number.
-pub struct Coded {
+pub struct CodedResult {
     pub machine: ModalMachine,
+    pub answer: u64,
+}
+
+// The live state after a call, and its answer's number.
+pub struct CodedLive {
+    pub live: Live,
     pub answer: u64,
 }
 
 // 0, or the refusal's number.
 pub fn answer_code(a: Answer) -> u64
-    ensures { λ r. ⌜ r ≡ codeOf (answerOf a) ⌝ }
+    ensures { λ r. ⌜ r ≡ answerCode (answerOf a) ⌝ }
 {
     match a {
         Answer::Accepted => return 0,
@@ -32,7 +44,7 @@ pub fn answer_code(a: Answer) -> u64
 
 // Rounds × 32, and the refusal's number.
 pub fn pressed_code(p: Pressed) -> u64
-    ensures { λ r. ⌜ r ≡ codeOf (pressOf p) ⌝ }
+    ensures { λ r. ⌜ r ≡ answerCode (pressOf p) ⌝ }
 {
     match p {
         Pressed::Accepted { rounds } => return (rounds as u64) * 32,
@@ -42,7 +54,7 @@ pub fn pressed_code(p: Pressed) -> u64
 
 // 0, or the pair's three numbers below a bit that says that there is one.
 pub fn waiting_code(w: Waiting) -> u64
-    ensures { λ r. ⌜ r ≡ codeOf (popOf w) ⌝ }
+    ensures { λ r. ⌜ r ≡ answerCode (popOf w) ⌝ }
 {
     match w {
         Waiting::Pair(p) => {
@@ -54,84 +66,71 @@ pub fn waiting_code(w: Waiting) -> u64
     }
 }
 
-pub fn input_key(m: ModalMachine, key: u16, budget: u16) -> Coded
-    ensures { λ r. ⌜ (machineOf (r .machine), r .answer) ≡ coded (call graphKind (machineOf m) (Press (record { key = key; budget = budget }))) ⌝ }
+pub fn input_key(
+    words: &[u64; Graph::WORDS],
+    counts: Counts,
+    tables: TableWords,
+    live: Live,
+    key: u16,
+    budget: u16,
+) -> CodedLive
+    requires { ⌜ length (now words) ≡ 4128 ⌝ }
+    ensures { λ r. ⌜ (machineBy (graphIn (now (words .entry)) counts) (tablesIn (tables .words)) (r .live), r .answer) ≡ coded (call graphKind (machineBy (graphIn (now (words .entry)) counts) (tablesIn (tables .words)) live) (Press (record { key = key; budget = budget }))) ⌝ }
 {
-    let r = m.input_key(key, budget);
-    let machine = r.machine;
+    let r = live::input_key(words, counts, tables, live, key, budget);
+    let next = r.live;
     let answer = r.answer;
-    Coded {
-        machine: machine,
+    CodedLive {
+        live: next,
         answer: pressed_code(answer),
     }
 }
 
-pub fn pop(m: ModalMachine) -> Coded
-    ensures { λ r. ⌜ (machineOf (r .machine), r .answer) ≡ coded (call graphKind (machineOf m) Pop) ⌝ }
+pub fn pop(live: Live) -> CodedLive
+    ensures { λ r. ⌜ ((g : Bindings) (t : Tables) → (machineBy g t (r .live), r .answer) ≡ coded (call graphKind (machineBy g t live) Pop)) ⌝ }
 {
-    let r = m.pop();
-    let machine = r.machine;
+    let r = live.pop();
+    let next = r.live;
     let answer = r.answer;
-    Coded {
-        machine: machine,
+    CodedLive {
+        live: next,
         answer: waiting_code(answer),
     }
 }
 
-pub fn reset_mode(m: ModalMachine) -> Coded
-    ensures { λ r. ⌜ (machineOf (r .machine), r .answer) ≡ coded (call graphKind (machineOf m) Reset) ⌝ }
+pub fn reset_mode(live: Live, tables: TableWords) -> CodedLive
+    ensures { λ r. ⌜ ((g : Bindings) → (machineBy g (tablesIn (tables .words)) (r .live), r .answer) ≡ coded (call graphKind (machineBy g (tablesIn (tables .words)) live) Reset)) ⌝ }
 {
-    let r = m.reset_mode();
-    let machine = r.machine;
+    let r = live.reset_mode(tables);
+    let next = r.live;
     let answer = r.answer;
-    Coded {
-        machine: machine,
+    CodedLive {
+        live: next,
         answer: answer_code(answer),
     }
 }
 
-// The fresh machine, with the tables and the graph that were read.
-fn machine_of(r: MapRead) -> ModalMachine
-    ensures { λ m. ⌜ machineOf m ≡ mapOf r ⌝ }
-{
-    let words = r.words;
-    let counts = r.counts;
-    let classes = r.classes;
-    let modes = r.modes;
-    let rules = r.rules;
-    let sizes = r.sizes;
-    let graph = Graph {
-        words: words,
-        counts: counts,
-    };
-    let tables = TableWords {
-        classes: classes,
-        modes: modes,
-        rules: rules,
-        sizes: sizes,
-    };
-    let mut m = ModalMachine::fresh();
-    m.graph = graph;
-    m.tables = tables;
-    m
-}
-
-// The machine of the map. Refused, `m`.
-pub fn open(m: ModalMachine, map: &[u8]) -> Coded
+// The fresh machine over the map that was read. Refused, `m`.
+pub fn open(m: ModalMachine, map: &[u8]) -> CodedResult
     ensures { λ r. ⌜ (machineOf (r .machine), r .answer) ≡ coded (openMap (machineOf m) (now (map .entry))) ⌝ }
 {
     let r = map::read_map(map);
     let answer = r.answer;
     match answer {
         Answer::Refused(n) => {
-            return Coded {
+            return CodedResult {
                 machine: m,
                 answer: n as u64,
             };
         }
         Answer::Accepted => {
-            return Coded {
-                machine: machine_of(r),
+            let graph = r.graph;
+            let tables = r.tables;
+            return CodedResult {
+                machine: ModalMachine::over(Map {
+                    graph: graph,
+                    tables: tables,
+                }),
                 answer: 0,
             };
         }

@@ -1,89 +1,102 @@
-// One machine, lent to each call. The call is made by value on what is lent, the machine that it hands back is stored, and
-// its answer is returned. So a refused call leaves the machine as it was.
+// One scanner, lent to each call. Each function takes it apart by field, calls what works by value on the part that changes,
+// stores that part, and returns the answer. So a refused call leaves the machine as it was.
 use keygraph::answer::Answer;
 use keygraph::find::Found;
+use keygraph::mapping;
 use keygraph::path::EdgePath;
+use keygraph::prefix;
 use keygraph::step::Step;
 use keymachine::context::Override;
-use keymachine::machine::ModalMachine;
-use keymachine::machine::Pressed;
-use keymachine::machine::Waiting;
+use keymachine::live;
+use keymachine::live::Pressed;
+use keymachine::live::Waiting;
+use keymachine::scanner::Scanner;
+use keymachine::tables::Tables;
 ghost use mathlib.Core.Path.{_≡_};
-ghost use Rattle.rules.specs.Calls.{graphKind, call, mode-call, Map, Prefix, Press, Pop, Repeats, Reset, FindFits, HintFits};
+ghost use Rattle.rules.specs.Calls.{graphKind, call, mode-call, Open, Map, Prefix, Press, Pop, Repeats, Reset, FindFits, HintFits};
 ghost use Rattle.keyparts.specs.View.{wholePath, wholeStep, chosenOf, foundOf, answerOf};
-ghost use Rattle.keypairs.specs.View.{overOf};
+ghost use Rattle.keypairs.specs.View.{overOf, wholeTables};
 ghost use Rattle.keymachine.specs.View.{machineOf, pressOf, popOf};
 
-pub fn add_mapping(m: &mut ModalMachine, mode: u16, path: EdgePath, step: Step) -> Answer
-    ensures { λ r. ⌜ (machineOf (now (m .exit)), answerOf r) ≡ call graphKind (machineOf (now (m .entry))) (Map mode (wholePath path) (wholeStep step)) ⌝ }
+pub fn open(m: &mut Scanner, tables: Tables) -> Answer
+    ensures { λ r. ⌜ (machineOf (now (m .exit) .machine), answerOf r) ≡ call graphKind (machineOf (now (m .entry) .machine)) (Open (wholeTables tables)) ⌝ }
 {
-    let r = (*m).add_mapping(mode, path, step);
-    *m = r.machine;
+    let r = (*m).machine.open(tables);
+    (*m).machine = r.machine;
+    r.answer
+}
+
+pub fn add_mapping(m: &mut Scanner, mode: u16, path: EdgePath, step: Step) -> Answer
+    ensures { λ r. ⌜ (machineOf (now (m .exit) .machine), answerOf r) ≡ call graphKind (machineOf (now (m .entry) .machine)) (Map mode (wholePath path) (wholeStep step)) ⌝ }
+{
+    let r = mapping::add_mapping((*m).machine.map.graph, mode, path, step);
+    (*m).machine.map.graph = r.graph;
     r.answer
 }
 
 // `chosen`: the prefix has the step.
-pub fn add_prefix(
-    m: &mut ModalMachine,
-    mode: u16,
-    path: EdgePath,
-    chosen: bool,
-    step: Step,
-) -> Answer
-    ensures { λ r. ⌜ (machineOf (now (m .exit)), answerOf r) ≡ call graphKind (machineOf (now (m .entry))) (Prefix mode (wholePath path) (chosenOf chosen (wholeStep step))) ⌝ }
+pub fn add_prefix(m: &mut Scanner, mode: u16, path: EdgePath, chosen: bool, step: Step) -> Answer
+    ensures { λ r. ⌜ (machineOf (now (m .exit) .machine), answerOf r) ≡ call graphKind (machineOf (now (m .entry) .machine)) (Prefix mode (wholePath path) (chosenOf chosen (wholeStep step))) ⌝ }
 {
-    let r = (*m).add_prefix(mode, path, chosen, step);
-    *m = r.machine;
+    let r = prefix::add_prefix((*m).machine.map.graph, mode, path, chosen, step);
+    (*m).machine.map.graph = r.graph;
     r.answer
 }
 
-pub fn input_key(m: &mut ModalMachine, key: u16, budget: u16) -> Pressed
-    ensures { λ r. ⌜ (machineOf (now (m .exit)), pressOf r) ≡ call graphKind (machineOf (now (m .entry))) (Press (record { key = key; budget = budget })) ⌝ }
+pub fn input_key(m: &mut Scanner, key: u16, budget: u16) -> Pressed
+    ensures { λ r. ⌜ (machineOf (now (m .exit) .machine), pressOf r) ≡ call graphKind (machineOf (now (m .entry) .machine)) (Press (record { key = key; budget = budget })) ⌝ }
 {
-    let r = (*m).input_key(key, budget);
-    *m = r.machine;
+    let r = live::input_key(
+        &(*m).machine.map.graph.words,
+        (*m).machine.map.graph.counts,
+        (*m).machine.map.tables,
+        (*m).machine.live,
+        key,
+        budget,
+    );
+    (*m).machine.live = r.live;
     r.answer
 }
 
-pub fn pop(m: &mut ModalMachine) -> Waiting
-    ensures { λ r. ⌜ (machineOf (now (m .exit)), popOf r) ≡ call graphKind (machineOf (now (m .entry))) Pop ⌝ }
+pub fn pop(m: &mut Scanner) -> Waiting
+    ensures { λ r. ⌜ (machineOf (now (m .exit) .machine), popOf r) ≡ call graphKind (machineOf (now (m .entry) .machine)) Pop ⌝ }
 {
-    let r = (*m).pop();
-    *m = r.machine;
+    let r = (*m).machine.live.pop();
+    (*m).machine.live = r.live;
     r.answer
 }
 
-pub fn repeat(m: &mut ModalMachine, sequence: u16, over: Override) -> Answer
-    ensures { λ r. ⌜ (machineOf (now (m .exit)), answerOf r) ≡ call graphKind (machineOf (now (m .entry))) (Repeats sequence (overOf over)) ⌝ }
+pub fn repeat(m: &mut Scanner, sequence: u16, over: Override) -> Answer
+    ensures { λ r. ⌜ (machineOf (now (m .exit) .machine), answerOf r) ≡ call graphKind (machineOf (now (m .entry) .machine)) (Repeats sequence (overOf over)) ⌝ }
 {
-    let r = (*m).repeat(sequence, over);
-    *m = r.machine;
+    let r = (*m).machine.live.repeat(sequence, over);
+    (*m).machine.live = r.live;
     r.answer
 }
 
-pub fn reset_mode(m: &mut ModalMachine) -> Answer
-    ensures { λ r. ⌜ (machineOf (now (m .exit)), answerOf r) ≡ call graphKind (machineOf (now (m .entry))) Reset ⌝ }
+pub fn reset_mode(m: &mut Scanner) -> Answer
+    ensures { λ r. ⌜ (machineOf (now (m .exit) .machine), answerOf r) ≡ call graphKind (machineOf (now (m .entry) .machine)) Reset ⌝ }
 {
-    let r = (*m).reset_mode();
-    *m = r.machine;
+    let r = (*m).machine.live.reset_mode((*m).machine.map.tables);
+    (*m).machine.live = r.live;
     r.answer
 }
 
 // The three that only look.
-pub fn mode(m: &ModalMachine) -> u16
-    ensures { λ r. ⌜ r ≡ mode-call graphKind (machineOf (now (m .entry))) ⌝ }
+pub fn mode(m: &Scanner) -> u16
+    ensures { λ r. ⌜ r ≡ mode-call graphKind (machineOf (now (m .entry) .machine)) ⌝ }
 {
-    (*m).mode()
+    (*m).machine.live.mode()
 }
 
-pub fn find(m: &ModalMachine, mode: u16, action: u16) -> Found
-    ensures { λ r. ⌜ FindFits (machineOf (now (m .entry)) .bindings) mode action (foundOf r) ⌝ }
+pub fn find(m: &Scanner, mode: u16, action: u16) -> Found
+    ensures { λ r. ⌜ FindFits (machineOf (now (m .entry) .machine) .bindings) mode action (foundOf r) ⌝ }
 {
-    (*m).find(mode, action)
+    (*m).machine.map.graph.find(mode, action)
 }
 
-pub fn free_nodes(m: &ModalMachine) -> u16
-    ensures { λ r. ⌜ HintFits (machineOf (now (m .entry)) .bindings) r ⌝ }
+pub fn free_nodes(m: &Scanner) -> u16
+    ensures { λ r. ⌜ HintFits (machineOf (now (m .entry) .machine) .bindings) r ⌝ }
 {
-    (*m).free_nodes()
+    (*m).machine.map.graph.free_nodes()
 }

@@ -1,7 +1,9 @@
--- The machine is the method's, and the number is its answer's.
-use Rattle.keymachine.specs.View.{machineOf, pressOf}
-use Rattle.host.proofs.Numbers.{numbered}
+-- The live state is the call's, and the number is its answer's.
+use Rattle.keyparts.specs.View.{graphIn}
+use Rattle.keypairs.specs.View.{tablesIn}
+use Rattle.keymachine.specs.View.{machineBy, pressOf}
 use borrow.Author.Needs.{needs}
+use Rattle.host.proofs.Numbers.{numbered}
 use Rattle.host.proofs.coded.input_key.Statement.{statement}
 use Rattle.host.proofs.coded.input_key.Tie as tie
 
@@ -12,7 +14,7 @@ pressed-code-requires : tie.Need-pressed-code-requires
 pressed-code-requires c κs = search needs
 
 returns : tie.Need-returns
-returns c = let r = c .before .before .input-key in numbered (machineOf (r .result .machine)) (pressOf (r .result .answer)) (c .pressed-code .result) _ (r .ensures) (c .pressed-code .ensures)
+returns c = let a = c .before .before .before .args in let r = c .before .before .input-key in numbered (machineBy (graphIn (a .words .now) (a .counts)) (tablesIn (a .tables .words)) (r .result .live)) (pressOf (r .result .answer)) (c .pressed-code .result) _ (r .ensures) (c .pressed-code .ensures)
 
 pub input-key-spec : {M : Type 1} → statement M
 input-key-spec = tie.close (tie.spec input-key-requires pressed-code-requires returns)

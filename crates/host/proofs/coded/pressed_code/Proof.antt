@@ -1,7 +1,7 @@
 -- Each case of the answer has its own number.
 use mathlib.Core.Path.{sym, ap}
 use Rattle.keymachine.specs.View.{pressOf}
-use Rattle.host.specs.Codes.{codeOf}
+use Rattle.host.specs.Codes.{answerCode}
 use borrow.Author.Needs.{needs}
 use Rattle.host.proofs.coded.pressed_code.Statement.{statement}
 use Rattle.host.proofs.coded.pressed_code.Tie as tie
@@ -16,7 +16,7 @@ mul-result : tie.Need-mul-result
 mul-result c = search needs
 
 returns : tie.Need-returns
-returns c = sym (ap (λ p. codeOf (pressOf p)) (c .before .p .given .1))
+returns c = sym (ap (λ p. answerCode (pressOf p)) (c .before .p .given .1))
 
 enum-known-p-2 : tie.Need-enum-known-p-2
 enum-known-p-2 c = search needs
@@ -34,7 +34,7 @@ add-result : tie.Need-add-result
 add-result c = search needs
 
 returns-2 : tie.Need-returns-2
-returns-2 c = sym (ap (λ p. codeOf (pressOf p)) (c .before .p2 .given .1))
+returns-2 c = sym (ap (λ p. answerCode (pressOf p)) (c .before .p2 .given .1))
 
 pub pressed-code-spec : {M : Type 1} → statement M
 pressed-code-spec =

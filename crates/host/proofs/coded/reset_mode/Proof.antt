@@ -1,8 +1,9 @@
--- The machine is the method's, and the number is its answer's.
+-- The live state is the call's, and the number is its answer's.
 use Rattle.keyparts.specs.View.{answerOf}
-use Rattle.keymachine.specs.View.{machineOf}
-use Rattle.host.proofs.Numbers.{numbered}
+use Rattle.keypairs.specs.View.{tablesIn}
+use Rattle.keymachine.specs.View.{machineBy}
 use borrow.Author.Needs.{needs}
+use Rattle.host.proofs.Numbers.{numbered}
 use Rattle.host.proofs.coded.reset_mode.Statement.{statement}
 use Rattle.host.proofs.coded.reset_mode.Tie as tie
 
@@ -13,7 +14,7 @@ answer-code-requires : tie.Need-answer-code-requires
 answer-code-requires c κs = search needs
 
 returns : tie.Need-returns
-returns c = let r = c .before .before .reset-mode in numbered (machineOf (r .result .machine)) (answerOf (r .result .answer)) (c .answer-code .result) _ (r .ensures) (c .answer-code .ensures)
+returns c = λ g. let a = c .before .before .before .args in let r = c .before .before .reset-mode in numbered (machineBy g (tablesIn (a .tables .words)) (r .result .live)) (answerOf (r .result .answer)) (c .answer-code .result) _ (r .ensures g) (c .answer-code .ensures)
 
 pub reset-mode-spec : {M : Type 1} → statement M
 reset-mode-spec = tie.close (tie.spec reset-mode-requires answer-code-requires returns)

@@ -1,7 +1,7 @@
 -- Each case of the answer has its own number; three numbers below 2^16 and one bit fit 64 bits.
 use mathlib.Core.Path.{sym, ap}
 use Rattle.keymachine.specs.View.{popOf}
-use Rattle.host.specs.Codes.{codeOf}
+use Rattle.host.specs.Codes.{answerCode}
 use borrow.Author.Needs.{needs}
 use Rattle.host.proofs.coded.waiting_code.Statement.{statement}
 use Rattle.host.proofs.coded.waiting_code.Tie as tie
@@ -34,7 +34,7 @@ add-result : tie.Need-add-result
 add-result c = search needs
 
 returns : tie.Need-returns
-returns c = sym (ap (λ w. codeOf (popOf w)) (c .before .before .before .before .before .w .given .1))
+returns c = sym (ap (λ w. answerCode (popOf w)) (c .before .before .before .before .before .w .given .1))
 
 enum-told : tie.Need-enum-told
 enum-told c = search needs

@@ -1,30 +1,35 @@
--- The call by value whose answer is a number, `coded::open`, is made on the machine that is lent, by the walk of `WalkBytes`.
+-- The machine is loaded whole and stored, by `Walk`; the map is a slice that is handed on.
 use mathlib.Core.Path.{_≡_}
-use Prim.Native.Nat.{ℕ}
-use mathlib.Core.List.{List}
-use Rattle.keymachine.specs.declared.machine.ModalMachine.{ModalMachine}
-use denote.Triple.Spec.{tripleOf}
-use denote.Triple.Table.{entered, cited}
-use contract.Running.{givenOf, tables, tablesOf}
+use mathlib.Core.List.{[], _∷_}
 use Rattle.keymachine.specs.View.{machineOf}
 use Rattle.host.specs.Codes.{coded, openMap}
-use Rattle.lending.proofs.WalkBytes.{Method, meets}
-use Rattle.host.proofs.Types.{coded as coded-struct}
+use denote.Triple.Spec.{tripleOf}
+use Rattle.lending.proofs.Args.{bytes}
+use Rattle.lending.proofs.Spot.{load}
+use Rattle.lending.proofs.Thin.{Call, calling, Promise, Effect}
+use Rattle.lending.proofs.Walk.{Method, meets}
+use Rattle.lending.proofs.Proved.{proves}
+use Rattle.host.proofs.Types.{the-machine, coded-machine}
 use Rattle.host.proofs.coded.open.Symbol as method
 use Rattle.host.proofs.coded.open.Symbol.{name as #method}
 use Rattle.host.proofs.coded.open.Met as theorem
-use Rattle.host.proofs.firmware.keymap_open.Key.{name as #keymap-open}
-use Rattle.host.proofs.firmware.keymap_open as keymap-open
+use Rattle.host.proofs.firmware.keymap_open.Key.{name as #mine}
+use Rattle.host.proofs.firmware.keymap_open as mine
 use Rattle.host.proofs.firmware.keymap_open.Statement as stated
 use Rattle.host.proofs.firmware.keymap_open.Code as code
 
-abbrev Leaves : ModalMachine → List ℕ → ModalMachine → ℕ → Type 0
-Leaves m x1 m₁ r = (machineOf m₁, r) ≡ coded (openMap (machineOf m) x1)
+abbrev this : Call 1
+this = calling the-machine coded-machine (load the-machine ∷ []) (bytes ∷ [])
+
+-- what the call promises, and what that makes of the scanner
+abbrev Gives : Promise this
+Gives t m₁ r = (machineOf m₁, r) ≡ coded (openMap (machineOf (t .0)) (t .1 .0 .now))
+
+abbrev Leaves : Effect this
+Leaves h t h₁ r = (machineOf (h₁ .machine), r) ≡ coded (openMap (machineOf (h .machine)) (t .0 .now))
 
 pub keymap-open-spec : {M : Type 1} → stated.statement M
-unfolding code.routine tablesOf
+unfolding code.routine
 keymap-open-spec 𝓤 H 𝓜 𝓖 𝓡 =
-    entered 𝓤 H (tripleOf 𝓤 H (𝓖 .A) keymap-open.signature (keymap-open.spec 𝓤 H (𝓖 .A) (𝓜 .mem) (𝓡 .run)))
-    (tables 𝓤 H 𝓜 𝓡 code.env .C) (tables 𝓤 H 𝓜 𝓡 code.env .Λ) #keymap-open code.function (code.unfolded 𝓤 H 𝓜 𝓡)
-    (meets coded-struct 𝓤 H (𝓖 .A) Leaves (givenOf 𝓤 H 𝓜 𝓖) (tablesOf 𝓤 H 𝓜 (tables 𝓤 H 𝓜 𝓡 code.env)) #method
-    (cited 𝓤 H (Method coded-struct 𝓤 H (𝓖 .A) Leaves) 𝓜 𝓡 code.env #method method.routine code.calls-host·coded·open (theorem.met 𝓤 H 𝓜 𝓖 𝓡)))
+    proves 𝓤 H 𝓜 𝓖 𝓡 (tripleOf 𝓤 H (𝓖 .A) mine.signature (mine.spec 𝓤 H (𝓖 .A) (𝓜 .mem) (𝓡 .run))) (Method this 𝓤 H (𝓖 .A) Gives) code.env #mine code.function (code.unfolded 𝓤 H 𝓜 𝓡)
+    #method method.routine code.calls-host·coded·open (theorem.met 𝓤 H 𝓜 𝓖 𝓡) (meets this 𝓤 H (𝓖 .A) Gives Leaves (λ h t m r e. e) #method)

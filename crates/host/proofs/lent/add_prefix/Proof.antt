@@ -1,34 +1,40 @@
--- The machine's `add_prefix` is called on the machine that is lent, by the walk of `Walk4`.
+-- The graph alone is loaded and stored, by `Walk`, and all else of the machine stays.
 use mathlib.Core.Path.{_≡_}
-use Rattle.keymachine.specs.declared.machine.ModalMachine.{ModalMachine}
-use Prim.Native.Nat.{ℕ}
-use Rattle.keyparts.specs.declared.path.EdgePath.{EdgePath}
-use mathlib.Core.Bool.{Bool}
-use Rattle.keyparts.specs.declared.step.Step.{Step}
-use Rattle.keyparts.specs.declared.answer.Answer.{Answer}
-use denote.Triple.Spec.{tripleOf}
-use denote.Triple.Table.{entered, cited}
-use contract.Running.{givenOf, tables, tablesOf}
+use mathlib.Core.List.{[], _∷_}
 use Rattle.rules.specs.Calls.{graphKind, call, Prefix}
-use Rattle.keyparts.specs.View.{wholePath, wholeStep, chosenOf, answerOf}
+use Rattle.rules.specs.Basics.{unless}
+use Rattle.rules.specs.Values.{prefixValid}
+use Rattle.rules.specs.Graph.{addPrefix}
+use Rattle.keyparts.specs.View.{graphOf, wholePath, wholeStep, chosenOf, answerOf, settled}
 use Rattle.keymachine.specs.View.{machineOf}
-use Rattle.lending.proofs.Walk4.{Method, meets}
-use Rattle.host.proofs.Types.{settled, u16, path, bool, step}
-use Rattle.keymachine.proofs.machine.ModalMachine.add_prefix.Symbol as method
-use Rattle.keymachine.proofs.machine.ModalMachine.add_prefix.Symbol.{name as #method}
-use Rattle.keymachine.proofs.machine.ModalMachine.add_prefix.Met as theorem
-use Rattle.host.proofs.lent.add_prefix.Key.{name as #add-prefix}
-use Rattle.host.proofs.lent.add_prefix as add-prefix
+use Rattle.keymachine.proofs.Calls.{prefixed}
+use denote.Triple.Spec.{tripleOf}
+use Rattle.lending.proofs.Args.{plainly}
+use Rattle.lending.proofs.Spot.{load}
+use Rattle.lending.proofs.Thin.{Call, calling, Promise, Effect}
+use Rattle.lending.proofs.Walk.{Method, meets}
+use Rattle.lending.proofs.Proved.{proves}
+use Rattle.host.proofs.Types.{the-graph, added, u16, path, bool, step}
+use Rattle.keygraph.proofs.prefix.add_prefix.Symbol as method
+use Rattle.keygraph.proofs.prefix.add_prefix.Symbol.{name as #method}
+use Rattle.keygraph.proofs.prefix.add_prefix.Met as theorem
+use Rattle.host.proofs.lent.add_prefix.Key.{name as #mine}
+use Rattle.host.proofs.lent.add_prefix as mine
 use Rattle.host.proofs.lent.add_prefix.Statement as stated
 use Rattle.host.proofs.lent.add_prefix.Code as code
 
-abbrev Leaves : ModalMachine → ℕ → EdgePath → Bool → Step → ModalMachine → Answer → Type 0
-Leaves m x1 x2 x3 x4 m₁ r = (machineOf m₁, answerOf r) ≡ call graphKind (machineOf m) (Prefix x1 (wholePath x2) (chosenOf x3 (wholeStep x4)))
+abbrev this : Call 0
+this = calling the-graph added (load the-graph ∷ []) (plainly u16 ∷ plainly path ∷ plainly bool ∷ plainly step ∷ [])
+
+-- what the call promises, and what that makes of the scanner
+abbrev Gives : Promise this
+Gives t g₁ r = (graphOf g₁, answerOf r) ≡ settled (graphOf (t .0)) (unless (prefixValid (t .1 .0) (wholePath (t .1 .1 .0)) (chosenOf (t .1 .1 .1 .0) (wholeStep (t .1 .1 .1 .1 .0)))) 1 (addPrefix (t .1 .0) (wholePath (t .1 .1 .0)) (chosenOf (t .1 .1 .1 .0) (wholeStep (t .1 .1 .1 .1 .0))) (graphOf (t .0))))
+
+abbrev Leaves : Effect this
+Leaves h t h₁ r = (machineOf (h₁ .machine), answerOf r) ≡ call graphKind (machineOf (h .machine)) (Prefix (t .0) (wholePath (t .1 .0)) (chosenOf (t .1 .1 .0) (wholeStep (t .1 .1 .1 .0))))
 
 pub add-prefix-spec : {M : Type 1} → stated.statement M
-unfolding code.routine tablesOf
+unfolding code.routine
 add-prefix-spec 𝓤 H 𝓜 𝓖 𝓡 =
-    entered 𝓤 H (tripleOf 𝓤 H (𝓖 .A) add-prefix.signature (add-prefix.spec 𝓤 H (𝓖 .A) (𝓜 .mem) (𝓡 .run)))
-    (tables 𝓤 H 𝓜 𝓡 code.env .C) (tables 𝓤 H 𝓜 𝓡 code.env .Λ) #add-prefix code.function (code.unfolded 𝓤 H 𝓜 𝓡)
-    (meets settled u16 path bool step 𝓤 H (𝓖 .A) Leaves (givenOf 𝓤 H 𝓜 𝓖) (tablesOf 𝓤 H 𝓜 (tables 𝓤 H 𝓜 𝓡 code.env)) #method
-    (cited 𝓤 H (Method settled u16 path bool step 𝓤 H (𝓖 .A) Leaves) 𝓜 𝓡 code.env #method method.routine code.calls-keymachine·machine·ModalMachine·add-prefix (theorem.met 𝓤 H 𝓜 𝓖 𝓡)))
+    proves 𝓤 H 𝓜 𝓖 𝓡 (tripleOf 𝓤 H (𝓖 .A) mine.signature (mine.spec 𝓤 H (𝓖 .A) (𝓜 .mem) (𝓡 .run))) (Method this 𝓤 H (𝓖 .A) Gives) code.env #mine code.function (code.unfolded 𝓤 H 𝓜 𝓡)
+    #method method.routine code.calls-keygraph·prefix·add-prefix (theorem.met 𝓤 H 𝓜 𝓖 𝓡) (meets this 𝓤 H (𝓖 .A) Gives Leaves (λ h t g r e. prefixed (machineOf (h .machine)) (graphOf g) (answerOf r) (t .0) (wholePath (t .1 .0)) (chosenOf (t .1 .1 .0) (wholeStep (t .1 .1 .1 .0))) e) #method)

@@ -1,30 +1,39 @@
--- The machine's `input_key` is called on the machine that is lent, by the walk of `Walk2`.
-use mathlib.Core.Path.{_≡_}
-use Rattle.keymachine.specs.declared.machine.ModalMachine.{ModalMachine}
+-- The words are lent on and the live state alone is stored, by `Lend`.
+use mathlib.Core.Path.{_≡_, subst}
 use Prim.Native.Nat.{ℕ}
-use Rattle.keymachine.specs.declared.machine.Pressed.{Pressed}
-use denote.Triple.Spec.{tripleOf}
-use denote.Triple.Table.{entered, cited}
-use contract.Running.{givenOf, tables, tablesOf}
+use mathlib.Core.List.{[], _∷_, List, map-id}
 use Rattle.rules.specs.Calls.{graphKind, call, Press}
-use Rattle.keymachine.specs.View.{machineOf, pressOf}
-use Rattle.lending.proofs.Walk2.{Method, meets}
-use Rattle.host.proofs.Types.{keyed, u16}
-use Rattle.keymachine.proofs.machine.ModalMachine.input_key.Symbol as method
-use Rattle.keymachine.proofs.machine.ModalMachine.input_key.Symbol.{name as #method}
-use Rattle.keymachine.proofs.machine.ModalMachine.input_key.Met as theorem
-use Rattle.host.proofs.lent.input_key.Key.{name as #input-key}
-use Rattle.host.proofs.lent.input_key as input-key
+use Rattle.keyparts.specs.View.{graphIn}
+use Rattle.keypairs.specs.View.{tablesIn}
+use Rattle.keymachine.specs.View.{machineBy, machineOf, pressOf}
+use denote.Triple.Spec.{tripleOf}
+use Rattle.lending.proofs.Args.{plainly}
+use Rattle.lending.proofs.Spot.{load}
+use Rattle.lending.proofs.Thin.{calling}
+use Rattle.lending.proofs.Loan.{shared}
+use Rattle.lending.proofs.Lend.{Lending, lending, that, Promise, Effect, Method, meets}
+use Rattle.lending.proofs.Proved.{proves}
+use Rattle.host.proofs.Types.{the-live, the-words, the-counts, the-tables, live-key, u16, Long, words-long}
+use Rattle.keymachine.proofs.live.input_key.Symbol as method
+use Rattle.keymachine.proofs.live.input_key.Symbol.{name as #method}
+use Rattle.keymachine.proofs.live.input_key.Met as theorem
+use Rattle.host.proofs.lent.input_key.Key.{name as #mine}
+use Rattle.host.proofs.lent.input_key as mine
 use Rattle.host.proofs.lent.input_key.Statement as stated
 use Rattle.host.proofs.lent.input_key.Code as code
 
-abbrev Leaves : ModalMachine → ℕ → ℕ → ModalMachine → Pressed → Type 0
-Leaves m x1 x2 m₁ r = (machineOf m₁, pressOf r) ≡ call graphKind (machineOf m) (Press (record { key = x1; budget = x2 }))
+abbrev this : Lending 0
+this = lending (calling the-live live-key (load the-counts ∷ load the-tables ∷ load the-live ∷ []) (plainly u16 ∷ plainly u16 ∷ [])) (shared the-words) (that Long words-long)
+
+-- what the call promises, and what that makes of the scanner
+abbrev Gives : Promise this
+Gives w w₁ t l r = (machineBy (graphIn w (t .0)) (tablesIn (t .1 .0 .words)) l, pressOf r) ≡ call graphKind (machineBy (graphIn w (t .0)) (tablesIn (t .1 .0 .words)) (t .1 .1 .0)) (Press (record { key = t .1 .1 .1 .0; budget = t .1 .1 .1 .1 .0 }))
+
+abbrev Leaves : Effect this
+Leaves h t h₁ r = (machineOf (h₁ .machine), pressOf r) ≡ call graphKind (machineOf (h .machine)) (Press (record { key = t .0; budget = t .1 .0 }))
 
 pub input-key-spec : {M : Type 1} → stated.statement M
-unfolding code.routine tablesOf
+unfolding code.routine
 input-key-spec 𝓤 H 𝓜 𝓖 𝓡 =
-    entered 𝓤 H (tripleOf 𝓤 H (𝓖 .A) input-key.signature (input-key.spec 𝓤 H (𝓖 .A) (𝓜 .mem) (𝓡 .run)))
-    (tables 𝓤 H 𝓜 𝓡 code.env .C) (tables 𝓤 H 𝓜 𝓡 code.env .Λ) #input-key code.function (code.unfolded 𝓤 H 𝓜 𝓡)
-    (meets keyed u16 u16 𝓤 H (𝓖 .A) Leaves (givenOf 𝓤 H 𝓜 𝓖) (tablesOf 𝓤 H 𝓜 (tables 𝓤 H 𝓜 𝓡 code.env)) #method
-    (cited 𝓤 H (Method keyed u16 u16 𝓤 H (𝓖 .A) Leaves) 𝓜 𝓡 code.env #method method.routine code.calls-keymachine·machine·ModalMachine·input-key (theorem.met 𝓤 H 𝓜 𝓖 𝓡)))
+    proves 𝓤 H 𝓜 𝓖 𝓡 (tripleOf 𝓤 H (𝓖 .A) mine.signature (mine.spec 𝓤 H (𝓖 .A) (𝓜 .mem) (𝓡 .run))) (Method this 𝓤 H (𝓖 .A) Gives) code.env #mine code.function (code.unfolded 𝓤 H 𝓜 𝓡)
+    #method method.routine code.calls-keymachine·live·input-key (theorem.met 𝓤 H 𝓜 𝓖 𝓡) (meets this 𝓤 H (𝓖 .A) Gives Leaves (λ h t b o δ w l r e. subst (λ (ws : List ℕ). (machineBy (graphIn ws (h .machine .map .graph .counts)) (tablesIn (h .machine .map .tables .words)) l, pressOf r) ≡ call graphKind (machineBy (graphIn ws (h .machine .map .graph .counts)) (tablesIn (h .machine .map .tables .words)) (h .machine .live)) (Press (record { key = t .0; budget = t .1 .0 }))) (map-id (h .machine .map .graph .words)) e) #method)
