@@ -15,8 +15,8 @@ use Rattle.rules.proofs.Adding.{fresh-same, map-same}
 use Rattle.rules.proofs.Following.{agree}
 use Rattle.rules.proofs.Runs.{saysRefused, Related, same-from-fresh}
 
--- The calls are those of `plain`: each part of a mapping is a key, a class or any-key taken once, and there is no prefix. All
--- else is free: open at any time, values in and out of range, paths of any length, refused calls among the others.
+-- The calls are those of `plain` (PlainCalls): each part of a mapping is a key, a class or any-key taken once, and there is no
+-- prefix. All else is free: open at any time, values in and out of range, paths of any length, refused calls among the others.
 
 -- The machines are `graphKind` and `listKind`: the graph represents the mappings, and the node has the place's number
 related : Related graphKind listKind SameBindings SamePlace

@@ -20,11 +20,11 @@ abbrev pub stored : List Edge → Edge → List Edge
 stored [] new = new ∷ []
 stored (x ∷ xs) new = if isEdge (new .from) (new .event) x then new ∷ xs else x ∷ stored xs new
 
-is-edge : (n : ℕ) (e : Event) (to : ℕ) → isEdge n e (edge n e to) ≡ true
+pub is-edge : (n : ℕ) (e : Event) (to : ℕ) → isEdge n e (edge n e to) ≡ true
 unfolding isEdge
 is-edge n e to = rw (eqb-same n, event-same e)
 
-edge-is : (n : ℕ) (e : Event) (x : Edge) → isEdge n e x ≡ true → (x .from ≡ n) × (x .event ≡ e)
+pub edge-is : (n : ℕ) (e : Event) (x : Edge) → isEdge n e x ≡ true → (x .from ≡ n) × (x .event ≡ e)
 unfolding isEdge
 edge-is n e x h = (eqb-is (x .from) n (and-l _ _ h), event-is (x .event) e (and-r (eqb (x .from) n) _ h))
 
@@ -33,7 +33,7 @@ unfolding endIn
 end-same [] n e to = rw (is-edge n e to)
 end-same (x ∷ xs) n e to = by-cases (isEdge n e x) (λ h. rw (h, is-edge n e to)) (λ h. rw (h, h) (end-same xs n e to))
 
-end-other : (xs : List Edge) (n : ℕ) (e : Event) (to m : ℕ) (d : Event) → (eqb n m && sameEvent e d) ≡ false → endIn (stored xs (edge n e to)) m d ≡ endIn xs m d
+pub end-other : (xs : List Edge) (n : ℕ) (e : Event) (to m : ℕ) (d : Event) → (eqb n m && sameEvent e d) ≡ false → endIn (stored xs (edge n e to)) m d ≡ endIn xs m d
 unfolding endIn isEdge
 end-other [] n e to m d h = rw h
 end-other (x ∷ xs) n e to m d h =
@@ -77,12 +77,12 @@ length-stored (x ∷ xs) n e to = by-cases (isEdge n e x) (λ k. rw k (omega ari
 
 -- ---- `add_edge` stores
 
-replaced : (xs : List Edge) (n : ℕ) (e : Event) (to : ℕ) → isThere (endIn xs n e) ≡ true → replaceIn xs (edge n e to) ≡ stored xs (edge n e to)
+pub replaced : (xs : List Edge) (n : ℕ) (e : Event) (to : ℕ) → isThere (endIn xs n e) ≡ true → replaceIn xs (edge n e to) ≡ stored xs (edge n e to)
 unfolding endIn replaceIn
 replaced [] n e to h = no-way h
 replaced (x ∷ xs) n e to h = by-cases (isEdge n e x) (λ k. rw k) (λ k. rw k (ap (λ r. x ∷ r) (replaced xs n e to (rw k at h))))
 
-appended : (xs : List Edge) (n : ℕ) (e : Event) (to : ℕ) → endIn xs n e ≡ none → xs ++ (edge n e to ∷ []) ≡ stored xs (edge n e to)
+pub appended : (xs : List Edge) (n : ℕ) (e : Event) (to : ℕ) → endIn xs n e ≡ none → xs ++ (edge n e to ∷ []) ≡ stored xs (edge n e to)
 unfolding endIn
 appended [] n e to h = refl
 appended (x ∷ xs) n e to h =

@@ -198,6 +198,30 @@ a-trail-of-64 = row (
     ∷ Pop ⇒ gives 1 0 0
     ∷ []))
 
+-- prefix ab: b is consumed, so a is no longer on the trail and q takes one round
+abbrev pub a-consumed-key-clears-the-trail : Row
+a-consumed-key-clears-the-trail = row (
+    Prefix 0 (two (Key a) (Key b)) none ⇒ Accepted
+    ∷ key a ⇒ rounds 1
+    ∷ key b ⇒ rounds 1
+    ∷ Pop ⇒ Nothing
+    ∷ key q ⇒ rounds 1
+    ∷ Pop ⇒ gives 0 0 0
+    ∷ Pop ⇒ Nothing
+    ∷ [])
+
+-- mapping ab: b runs the step, and again q takes one round
+abbrev pub a-run-step-clears-the-trail : Row
+a-run-step-clears-the-trail = row (
+    Map 0 (two (Key a) (Key b)) (does 1) ⇒ Accepted
+    ∷ key a ⇒ rounds 1
+    ∷ key b ⇒ rounds 1
+    ∷ Pop ⇒ gives 1 0 0
+    ∷ key q ⇒ rounds 1
+    ∷ Pop ⇒ gives 0 0 0
+    ∷ Pop ⇒ Nothing
+    ∷ [])
+
 -- an empty path is accepted after the range checks, and changes nothing
 abbrev pub an-empty-path : Row
 an-empty-path = row (
@@ -221,6 +245,8 @@ examples =
     ∷ the-rules-of-the-entered-mode
     ∷ the-unmapped-list-of-the-nodes-mode
     ∷ a-trail-of-64
+    ∷ a-consumed-key-clears-the-trail
+    ∷ a-run-step-clears-the-trail
     ∷ an-empty-path
     ∷ []
 

@@ -1,9 +1,12 @@
--- What is proved of the rules. Table and Examples: runs that compute. Numbers: reading and writing. Demand3: the graph machine
--- and the list reader agree; the files above it, from Tests on, are its lemmas.
+-- What is proved of the rules. Table, Examples and Rows: runs that compute. Numbers: reading and writing. Demand3: the graph
+-- machine and the list reader agree; the files above it, from Tests on, are its lemmas. PlainCalls: which calls it is about.
+-- Facts: edges, stack, popping, refusals; the files above it, from Grown on, are its lemmas.
 pub mod Table
 pub mod Examples
+pub mod Rows
 pub mod Numbers
 pub mod Tests
+pub mod Results
 pub mod Simulation
 pub mod Runs
 pub mod Places
@@ -12,3 +15,9 @@ pub mod Represents
 pub mod Following
 pub mod Adding
 pub mod Demand3
+pub mod Grown
+pub mod Rounds
+pub mod PlainCalls
+pub mod Refusals
+pub mod Reached
+pub mod Facts

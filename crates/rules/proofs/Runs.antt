@@ -15,7 +15,8 @@ use Rattle.rules.specs.Calls.{Kind, Machine, Call, Open, Map, Prefix, Pr
 use Rattle.rules.specs.Calls.{fresh, open-with, map-call, key-call, repeat-call, reset-call, settled, pressed, popped, call, history}
 use Rattle.rules.specs.ListReader.{plain}
 use Rattle.rules.proofs.Tests.{T-and, and-T}
-use Rattle.rules.proofs.Simulation.{Fits, Always, accepts, always-unless, Both, both-accept, both-refuse, both-bind, both-use, both-unless, Agree, Same, same, SameKey, same-key, goto-same, loop-same}
+use Rattle.rules.proofs.Results.{Always, accepts, always-unless}
+use Rattle.rules.proofs.Simulation.{isOther, Fits, Both, both-accept, both-refuse, both-bind, both-use, both-unless, Agree, Same, same, SameKey, same-key, goto-same, loop-same}
 
 -- the refusal n, of a key or of another call
 abbrev pub saysRefused : ℕ → Answer → Bool
@@ -29,7 +30,7 @@ saysRefused n (PressRefused m rounds) = eqb n m
 abbrev pub neither3nor4 : Answer → Bool
 neither3nor4 x = not (saysRefused 3 x) && not (saysRefused 4 x)
 
-repeat-fits : (n : ℕ) (o : Option Context) (c : Shared) → Fits c → Always Fits (repeatSequence n o c)
+repeat-fits : (n : ℕ) (o : Option Context) (c : Shared) → Fits c → Always isOther Fits (repeatSequence n o c)
 unfolding repeatSequence
 repeat-fits n o c h =
     always-unless (isSequence n) 1 tt (always-unless (leb (length (fetch o (getD (c .sequences) n noTracker) .pairs) + length (c .queue)) mostQueued) 5 tt (accepts h))

@@ -7,36 +7,20 @@ use mathlib.Core.Bool.{Bool, true, false, not, _&&_}
 use mathlib.Core.Option.{Option, none, some, Option·getD}
 use mathlib.Core.List.{List, [], _∷_, _++_}
 use lib.Dec.{T, ltb, leb, eqb}
-use lib.ListN.{length, drop, getD}
+use lib.ListN.{length, drop}
 use Rattle.rules.specs.Basics.{Result, accept, refuse, _>>=_, unless, if_then_else_, every, present}
-use Rattle.rules.specs.Values.{mostClasses, modeCount, mostActions, mostQueued, mostTracked, mostTrail, decomposes, isMode, defaultAction}
-use Rattle.rules.specs.Values.{Event, Step, Context, Pair}
-use Rattle.rules.specs.Tables.{ClassEntry, classValid, ModeEntry, noEntry, modeEntry, modeValid, Status, Atom, Break, Ignore, Restart, Track, statusOf, Rule, matches, Tables, tablesValid}
-use Rattle.rules.specs.KeyLoop.{Tracker, noTracker, track, Shared, withMode, withTrail, applyRule, applyRules, push, pushAll, giveAll}
+use Rattle.rules.specs.Values.{mostClasses, modeCount, mostActions, mostTrail, decomposes, isMode, defaultAction, Event, Step}
+use Rattle.rules.specs.Tables.{ClassEntry, classValid, ModeEntry, noEntry, modeEntry, modeValid, Tables, tablesValid}
+use Rattle.rules.specs.KeyLoop.{Shared, withMode, withTrail, giveAll}
 use Rattle.rules.specs.KeyLoop.{InputResult, Again, ClearTrail, Consumed, NeedMore, Unmapped, RunStep, RetryAfter, Turn, Navigator, State, KeyResult, runHook, setMark, orDefault, at, proceed, gotoMode, unmapped, stepTo, step, after, round, loop}
 use Rattle.rules.proofs.Tests.{T-and}
+use Rattle.rules.proofs.Results.{Always, accepts, refuses, giveAll-keeps}
 
--- ---- what holds of a result, and of two results
+-- ---- what holds of two results
 
 -- no refusal of the list reader: neither 3 (no edge left) nor 4 (another mode)
 abbrev pub isOther : ℕ → Bool
 isOther n = not (eqb 3 n) && not (eqb 4 n)
-
-pub data Always {A : Type 0} (X : A → Type 0) : Result A → Type 0 where
-  accepts : {a : A} → X a → Always X (accept a)
-  refuses : (n : ℕ) → T (isOther n) → Always X (refuse n)
-
-always-bind : {A B : Type 0} {X : A → Type 0} {Y : B → Type 0} {r : Result A} {f : A → Result B} → Always X r → ((a : A) → X a → Always Y (f a)) → Always Y (r >>= f)
-always-bind (accepts {a = a} h) k = k a h
-always-bind (refuses n o) k = refuses n o
-
-pub always-unless : {A : Type 0} {X : A → Type 0} (b : Bool) (n : ℕ) {r : Result A} → T (isOther n) → Always X r → Always X (unless b n r)
-always-unless true n o h = h
-always-unless false n o h = refuses n o
-
-always-if : {A : Type 0} {X : A → Type 0} (b : Bool) {r s : Result A} → Always X r → Always X s → Always X (if b then r else s)
-always-if true h k = h
-always-if false h k = k
 
 -- both accept, with values that are related, or both refuse with one number
 pub data Both {A B : Type 0} (X : A → B → Type 0) : Result A → Result B → Type 0 where
@@ -50,7 +34,7 @@ both-bind (both-refuse n o) k = both-refuse n o
 
 -- one result, used twice
 pub both-use : {A C D : Type 0} {X : A → Type 0} {Y : C → D → Type 0} {r : Result A} {f : A → Result C} {g : A → Result D}
-    → Always X r → ((a : A) → X a → Both Y (f a) (g a)) → Both Y (r >>= f) (r >>= g)
+    → Always isOther X r → ((a : A) → X a → Both Y (f a) (g a)) → Both Y (r >>= f) (r >>= g)
 both-use (accepts {a = a} h) k = k a h
 both-use (refuses n o) k = both-refuse n o
 
@@ -69,40 +53,8 @@ both-if false h k = k
 abbrev pub Fits : Shared → Type 0
 Fits c = T (tablesValid (c .tables)) × T (isMode (c .mode))
 
-abbrev Whatever : {A : Type 0} → A → Type 0
-Whatever a = Unit {0}
-
-track-other : (s : Status) (p : Pair) (t : Tracker) → Always Whatever (track s p t)
-unfolding track
-track-other Atom p t = accepts tt
-track-other Break p t = accepts tt
-track-other Ignore p t = accepts tt
-track-other Restart p t = accepts tt
-track-other Track p t = always-if (t .broken) (accepts tt) (always-unless (ltb (length (t .pairs)) mostTracked) 6 tt (accepts tt))
-
-rule-other : (mode : ℕ) (p : Pair) (r : Rule) (ts : List Tracker) → Always Whatever (applyRule mode p r ts)
-unfolding applyRule
-rule-other mode p r ts =
-    always-if (matches r mode (p .action)) (always-bind (track-other (statusOf (r .status)) p (getD ts (r .sequence) noTracker)) (λ t _. accepts tt)) (accepts tt)
-
-rules-other : (rs : List Rule) (mode : ℕ) (p : Pair) (ts : List Tracker) → Always Whatever (applyRules rs mode p ts)
-unfolding applyRules
-rules-other [] mode p ts = accepts tt
-rules-other (r ∷ rs) mode p ts = always-bind (rule-other mode p r ts) (λ ts₁ _. rules-other rs mode p ts₁)
-
-push-fits : (p : Pair) (c : Shared) → Fits c → Always Fits (push p c)
-unfolding push
-push-fits p c h =
-    always-bind (rules-other (c .tables .rules) (c .mode) p (c .sequences)) (λ ts _. always-unless (ltb (length (c .queue)) mostQueued) 5 tt (accepts h))
-
-pushAll-fits : (acts : List ℕ) (x : Context) (c : Shared) → Fits c → Always Fits (pushAll acts x c)
-unfolding pushAll
-pushAll-fits [] x c h = accepts h
-pushAll-fits (a ∷ rest) x c h = always-bind (push-fits (record { action = a; context = x }) c h) (λ c₁ h₁. pushAll-fits rest x c₁ h₁)
-
-giveAll-fits : (acts : List ℕ) (c : Shared) → Fits c → Always Fits (giveAll acts c)
-unfolding giveAll
-giveAll-fits acts c h = pushAll-fits acts (c .context) _ h
+giveAll-fits : (acts : List ℕ) (c : Shared) → Fits c → Always isOther Fits (giveAll acts c)
+giveAll-fits acts c h = giveAll-keeps tt tt (λ t m _. T (tablesValid t) × T (isMode m)) acts c h
 
 -- ---- the modes that are named are modes
 

@@ -1,0 +1,181 @@
+-- One key on any machine: its loop refuses with 8, 6, 5 or 7 alone, and the keys still to try and those on the trail together
+-- never weigh more than at the start. A key weighs 1, and 1 more for each time that it can decompose; a round puts back at most
+-- what it took, and a key that decomposes gives 27, which weighs 1, and a rest that weighs 1 less.
+use Prim.Native.Nat.{ℕ, zero, suc, _+_, _*_, _/_, _≤_}
+use native.Mathlib.Omega.{arith}
+use mathlib.Core.Path.{_≡_, refl}
+use mathlib.Core.Bool.{Bool}
+use mathlib.Core.Option.{Option, none, some, Option·getD}
+use mathlib.Core.List.{List, [], _∷_, _++_}
+use lib.Dec.{T, ltb, ltb→lt, leb→le}
+use lib.ListN.{length, drop, length-append}
+use Rattle.rules.specs.Basics.{Result}
+use Rattle.rules.specs.Values.{largest, composed, mostTrail, decomposes, firstKey, restOf, defaultAction, Event, Step}
+use Rattle.rules.specs.Tables.{modeEntry}
+use Rattle.rules.specs.KeyLoop.{Shared, withMode, giveAll, InputResult, Again, ClearTrail, Consumed, NeedMore, Unmapped, RunStep, RetryAfter, Navigator, State}
+use Rattle.rules.specs.KeyLoop.{runHook, setMark, orDefault, at, clearTrail, proceed, gotoMode, unmapped, stepTo, step, after, round, loop}
+use Rattle.rules.proofs.Results.{Always, accepts, refuses, always-bind, unless-so, if-so, giveAll-keeps}
+
+-- ---- weights
+
+unfoldable pub weight : List ℕ → ℕ
+weight [] = 0
+weight (k ∷ ks) = 1 + k / composed + weight ks
+
+weight-append : (xs ys : List ℕ) → weight (xs ++ ys) ≡ weight xs + weight ys
+unfolding weight
+weight-append [] ys = omega arith
+weight-append (x ∷ xs) ys = omega (arith, weight-append xs ys)
+
+weight-drop : (xs : List ℕ) → weight (drop 1 xs) ≤ weight xs
+unfolding weight
+weight-drop [] = omega arith
+weight-drop (x ∷ xs) = omega arith
+
+pub length-weight : (xs : List ℕ) → length xs ≤ weight xs
+unfolding weight
+length-weight [] = omega arith
+length-weight (x ∷ xs) = omega (arith, length-weight xs)
+
+weight-parts : (k : ℕ) (ks : List ℕ) → composed ≤ k → weight (firstKey ∷ restOf k ∷ ks) ≡ weight (k ∷ ks)
+unfolding weight
+weight-parts k ks h = omega arith
+
+-- ---- of each key
+
+abbrev pub Each : {A : Type 0} → (A → Type 0) → List A → Type 0
+Each K [] = Unit {0}
+Each K (k ∷ ks) = K k × Each K ks
+
+each-append : (K : ℕ → Type 0) (xs ys : List ℕ) → Each K xs → Each K ys → Each K (xs ++ ys)
+each-append K [] ys h k = k
+each-append K (x ∷ xs) ys h k = (h .0, each-append K xs ys (h .1) k)
+
+each-drop : (K : ℕ → Type 0) (xs : List ℕ) → Each K xs → Each K (drop 1 xs)
+each-drop K [] h = tt
+each-drop K (x ∷ xs) h = h .1
+
+pub each-key : (xs : List ℕ) → Each (λ k. Unit {0}) xs
+each-key [] = tt
+each-key (x ∷ xs) = (tt, each-key xs)
+
+-- a key of 16 bits weighs at most 2
+pub weight-most : (xs : List ℕ) → Each (λ k. k ≤ largest) xs → weight xs ≤ 2 * length xs
+unfolding weight
+weight-most [] h = omega arith
+weight-most (x ∷ xs) h = let a : x ≤ largest = h .0 in omega (arith, weight-most xs (h .1))
+
+-- ---- steps and unmapped keys leave the trail as it is
+
+module _ {P : Type 0} (Y : List ℕ → Type 0) where
+  abbrev Trails : State P → Type 0
+  Trails m = Y (m .shared .trail)
+
+mark-trail : (o : Option ℕ) (c : Shared) → setMark o c .trail ≡ c .trail
+unfolding setMark
+mark-trail none c = refl
+mark-trail (some x) c = refl
+
+hook-trail : (o : Option Event) (k : ℕ) (c : Shared) → runHook o k c .trail ≡ c .trail
+unfolding runHook
+hook-trail none k c = refl
+hook-trail (some e) k c = refl
+
+module _ {P : Type 0} (nav : Navigator P) {N : ℕ → Bool} (six : T (N 6)) (five : T (N 5)) (Y : List ℕ → Type 0) where
+  give : (acts : List ℕ) (c : Shared) → Y (c .trail) → Always N (λ x. Y (x .trail)) (giveAll acts c)
+  give acts c h = giveAll-keeps six five (λ _ _ tr. Y tr) acts c h
+
+  pub goto-keeps : (mode : ℕ) (c : Shared) → Y (c .trail) → Always N (Trails Y) (gotoMode nav mode c)
+  unfolding gotoMode
+  goto-keeps mode c h = always-bind (give (modeEntry (c .tables .modes) mode .enter) (withMode mode c) h) (λ c₁ k. accepts k)
+
+  unmapped-keeps : (m : State P) → Trails Y m → Always N (Trails Y) (unmapped nav m)
+  unfolding unmapped
+  unmapped-keeps m h =
+      let e = modeEntry (m .shared .tables .modes) (nav .modeOf (m .place)) in
+      always-bind (give (orDefault (e .unmapped)) (m .shared) h) (λ c k. goto-keeps (Option·getD (e .next) (c .mode)) c k)
+
+  stepTo-keeps : (acts : List ℕ) (o : Option ℕ) (m : State P) → Trails Y m → Always N (Trails Y) (stepTo nav acts o m)
+  unfolding stepTo
+  stepTo-keeps [] none m h = accepts h
+  stepTo-keeps [] (some mode) m h = always-bind (give (defaultAction ∷ []) (m .shared) h) (λ c k. goto-keeps mode c k)
+  stepTo-keeps (a ∷ rest) o m h = always-bind (give (a ∷ rest) (m .shared) h) (λ c k. goto-keeps (Option·getD o (c .mode)) c k)
+
+  step-keeps : (s : Step) (m : State P) → Trails Y m → Always N (Trails Y) (step nav s m)
+  unfolding step
+  step-keeps s m h = stepTo-keeps (s .actions) (s .next) (at (m .place) (setMark (s .mark) (m .shared))) (rw (mark-trail (s .mark) (m .shared)) h)
+
+-- ---- a round
+
+-- Keys to try and a state: they weigh at most w, at most l keys are on the trail, and K holds of each key
+pub record Bounded {P : Type 0} (w l : ℕ) (K : ℕ → Type 0) (ks : List ℕ) (m : State P) : Type 0 where
+  pub weighs : weight ks + weight (m .shared .trail) ≤ w
+  pub trails : length (m .shared .trail) ≤ l
+  pub tries : Each K ks
+  pub waits : Each K (m .shared .trail)
+
+module _ {P : Type 0} {w l : ℕ} {K : ℕ → Type 0} where
+  -- with no trail
+  cleared : (ks : List ℕ) (m : State P) → m .shared .trail ≡ [] → weight ks ≤ w → Each K ks → Bounded w l K ks m
+  unfolding weight
+  cleared ks m e h k = record { weighs = rw e (omega arith); trails = rw e (omega arith); tries = k; waits = rw e tt }
+
+module _ {P : Type 0} (nav : Navigator P) {N : ℕ → Bool} (six : T (N 6)) (five : T (N 5)) (seven : T (N 7))
+    (w l : ℕ) (room : mostTrail ≤ l) (K : ℕ → Type 0) (first : K firstKey) (rest : (k : ℕ) → K k → K (restOf k)) where
+  after-bounded : (x : InputResult) (k : ℕ) (ks : List ℕ) (m : State P) → Bounded w l K (k ∷ ks) m → Always N (λ r. Bounded w l K (r .0) (r .1)) (after nav x k ks m)
+  unfolding after weight
+  after-bounded Again k ks m h = accepts h
+  after-bounded ClearTrail k ks m h = accepts (cleared (k ∷ ks) (clearTrail m) refl (omega (arith, h .weighs)) (h .tries))
+  after-bounded Consumed k ks m h = accepts (cleared ks (clearTrail m) refl (omega (arith, h .weighs)) (h .tries .1))
+  after-bounded NeedMore k ks m h =
+      let tr = m .shared .trail in
+      unless-so (ltb (length tr) mostTrail) 7 seven
+      (λ t. accepts (record {
+        weighs = omega (arith, h .weighs, weight-append tr (k ∷ []));
+        trails = omega (arith, length-append tr (k ∷ []), ltb→lt (length tr) mostTrail t);
+        tries = h .tries .1;
+        waits = each-append K tr (k ∷ []) (h .waits) (h .tries .0, tt);
+      }))
+  after-bounded Unmapped k ks m h =
+      let tr = m .shared .trail in
+      let back = drop 1 (tr ++ (k ∷ [])) in
+      if-so (decomposes k)
+      (λ t. accepts (record {
+        weighs = omega (arith, h .weighs, weight-parts k ks (leb→le composed k t));
+        trails = h .trails;
+        tries = (first, (rest k (h .tries .0), h .tries .1));
+        waits = h .waits;
+      }))
+      (always-bind (unmapped-keeps nav six five (λ t. t ≡ []) (clearTrail m) refl)
+      (λ m₁ e. accepts (cleared (back ++ ks) m₁ e
+      (omega (arith, h .weighs, weight-append back ks, weight-drop (tr ++ (k ∷ [])), weight-append tr (k ∷ [])))
+      (each-append K back ks (each-drop K (tr ++ (k ∷ [])) (each-append K tr (k ∷ []) (h .waits) (h .tries .0, tt))) (h .tries .1)))))
+  after-bounded (RunStep s) k ks m h =
+      always-bind (step-keeps nav six five (λ t. t ≡ []) s (clearTrail m) refl)
+      (λ m₁ e. accepts (cleared ks m₁ e (omega (arith, h .weighs)) (h .tries .1)))
+  after-bounded (RetryAfter s) k ks m h =
+      always-bind (step-keeps nav six five (λ t. t ≡ []) s (clearTrail m) refl)
+      (λ m₁ e. accepts (cleared (k ∷ ks) m₁ e (omega (arith, h .weighs)) (h .tries)))
+
+  pub round-bounded : (k : ℕ) (ks : List ℕ) (m : State P) → Bounded w l K (k ∷ ks) m → Always N (λ r. Bounded w l K (r .0) (r .1)) (round nav k ks m)
+  unfolding round
+  round-bounded k ks m h =
+      let turn = nav .turn (m .shared .tables .classes) (m .place) k in
+      let e : runHook (turn .event) k (m .shared) .trail ≡ m .shared .trail = hook-trail (turn .event) k (m .shared) in
+      after-bounded (turn .result) k ks (at (turn .place) (runHook (turn .event) k (m .shared)))
+      (record { weighs = rw e (h .weighs); trails = rw e (h .trails); tries = h .tries; waits = rw e (h .waits) })
+
+  -- ---- the loop
+
+  pub loop-bounded : T (N 8) → (left made : ℕ) (ks : List ℕ) (m : State P) → Bounded w l K ks m → Always N (λ m₁. Bounded w l K [] m₁) (loop nav left made ks m .result)
+  unfolding loop proceed
+  loop-bounded eight zero made [] m h = accepts h
+  loop-bounded eight zero made (k ∷ ks) m h = refuses 8 eight
+  loop-bounded eight (suc left) made [] m h = accepts h
+  loop-bounded eight (suc left) made (k ∷ ks) m h = go (λ ks₁ m₁ h₁. loop-bounded eight left (suc made) ks₁ m₁ h₁) (round-bounded k ks m h)
+    where
+      go : ((ks₁ : List ℕ) (m₁ : State P) → Bounded w l K ks₁ m₁ → Always N (λ m₂. Bounded w l K [] m₂) (loop nav left (suc made) ks₁ m₁ .result))
+          → {x : Result (List ℕ × State P)} → Always N (λ r. Bounded w l K (r .0) (r .1)) x
+          → Always N (λ m₂. Bounded w l K [] m₂) (proceed (suc made) (λ ks₁ m₁. loop nav left (suc made) ks₁ m₁) x .result)
+      go on (accepts {a = r} h₁) = on (r .0) (r .1) h₁
+      go on (refuses n o) = refuses n o
