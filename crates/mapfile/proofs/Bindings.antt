@@ -7,21 +7,21 @@ use mathlib.Core.Path.{_≡_, refl, sym, ap, _∙_, subst}
 use mathlib.Core.Bool.{Bool, true, false}
 use mathlib.Core.Option.{Option, none, some}
 use mathlib.Core.List.{List, [], _∷_}
-use lib.ListN.{length, drop, drop-of-length-le}
+use lib.ListN.{length, drop, replicate, drop-of-length-le}
 use lib.Seq.{drop-cons}
 use Rattle.rules.specs.Basics.{Result, accept, refuse, _>>=_}
 use Rattle.rules.specs.Values.{Part, Step, isMode, mostParts}
 use Rattle.rules.specs.Graph.{Graph, freshGraph}
 use Rattle.rules.specs.Calls.{Machine, graphKind, fresh, withBindings, map-call, prefix-call}
-use Rattle.rules.specs.Tables.{Tables}
+use Rattle.rules.specs.Tables.{Tables, noTables}
 use Rattle.rules.specs.Numbers.{number}
 use Rattle.rules.specs.MapFile.{Reader, thenRead, lifted, such, upTo, listOf, readPart, readStep, bindBy, readBinding, readBindings, readTables, readMachine, atEnd, readMap}
-use Rattle.keyparts.specs.View.{resultBy}
+use Rattle.keyparts.specs.View.{resultBy, outcome, sizesIn}
 use Rattle.keyparts.specs.declared.answer.Answer.{Answer}
 use Rattle.keyparts.specs.declared.answer.Answer.the-variants.{Accepted, Refused}
-use Rattle.mapparts.specs.declared.cursor.Cursor.{Cursor}
-use Rattle.keypairs.specs.View.{outcome}
-use Rattle.mapparts.specs.View.{cursorOf, with, Reads}
+use Rattle.mapparts.specs.declared.place.FilePlace.{FilePlace}
+use Rattle.keypairs.specs.View.{tablesIn}
+use Rattle.mapparts.specs.View.{placeOf, with, Reads}
 use Rattle.mapfile.specs.View.{Comes, machineBy}
 
 -- ---- coming to an answer
@@ -38,33 +38,33 @@ module _ {A B : Type 0} where
       go (accept bs) y e = first y (r bs) e
       go (refuse n) y e = first y (refuse n) e
 
-module _ {A : Type 0} (s : List ℕ) (c : Cursor) (r : Reader A) where
-  pub comes-refused : (c .refusal ≡ 0 → ⊥) → Comes (cursorOf s c) r (refuse (c .refusal))
-  unfolding cursorOf
+module _ {A : Type 0} (s : List ℕ) (c : FilePlace) (r : Reader A) where
+  pub comes-refused : (c .refusal ≡ 0 → ⊥) → Comes (placeOf s c) r (refuse (c .refusal))
+  unfolding placeOf outcome
   comes-refused h = record { is = go (c .refusal) h }
     where
       go : (n : ℕ) → (n ≡ 0 → ⊥) → refuse n ≡ (outcome n (drop (c .at) s) >>= r)
       go zero h = absurd (h refl)
       go (suc n) h = refl
 
-  pub comes-at : {z : Result (A × List ℕ)} → c .refusal ≡ 0 → z ≡ r (drop (c .at) s) → Comes (cursorOf s c) r z
-  unfolding cursorOf
+  pub comes-at : {z : Result (A × List ℕ)} → c .refusal ≡ 0 → z ≡ r (drop (c .at) s) → Comes (placeOf s c) r z
+  unfolding placeOf outcome
   comes-at h e = record { is = e ∙ sym (ap (λ n. outcome n (drop (c .at) s) >>= r) h) }
 
 -- from a place that is not refused
-pub come-from : {A : Type 0} (s : List ℕ) (r : Reader A) (at : ℕ) {z : Result (A × List ℕ)} → Comes (cursorOf s (record { at = at; refusal = 0 })) r z → z ≡ r (drop at s)
-unfolding cursorOf
+pub come-from : {A : Type 0} (s : List ℕ) (r : Reader A) (at : ℕ) {z : Result (A × List ℕ)} → Comes (placeOf s (record { at = at; refusal = 0 })) r z → z ≡ r (drop at s)
+unfolding placeOf outcome
 come-from s r at h = h .is
 
 -- ---- the call at the end
 
-module _ (s : List ℕ) (c : Cursor) (ans : Answer) (g : Graph) (m : Machine graphKind) where
+module _ (s : List ℕ) (c : FilePlace) (ans : Answer) (g : Graph) (m : Machine graphKind) where
   abbrev after-call : Result Graph → Result (Machine graphKind)
   after-call x = x >>= λ b. accept (withBindings graphKind m b)
 
   pub bound : {x : Result Graph} → c .refusal ≡ 0 → resultBy ans g ≡ x
-      → Comes (cursorOf s c) (lifted (after-call x)) (resultBy ans (withBindings graphKind m g, drop (c .at) s))
-  unfolding cursorOf
+      → Comes (placeOf s c) (lifted (after-call x)) (resultBy ans (withBindings graphKind m g, drop (c .at) s))
+  unfolding placeOf outcome
   bound {x} h e =
       record { is = go ans ∙ ap (λ x. lifted (after-call x) (drop (c .at) s)) e ∙ sym (ap (λ n. outcome n (drop (c .at) s) >>= lifted (after-call x)) h) }
     where
@@ -162,3 +162,21 @@ map-refused n s e = end-refused n ∙ ap atEnd e
 pub map-ended : {r : Result (Machine graphKind)} {z : Result (Machine graphKind × List ℕ)} (s : List ℕ) → z ≡ readMachine s → r ≡ atEnd z → r ≡ readMap s
 unfolding readMap
 map-ended s e h = h ∙ ap atEnd e
+
+-- ---- a map that is refused
+
+-- words of zeros count no entry
+pub empty-tables : (ws : List ℕ) → ws ≡ replicate 131 0 → tablesIn ws ≡ noTables
+unfolding tablesIn noTables sizesIn
+empty-tables ws e = ap tablesIn e
+
+pub fresh-map : (g : Graph) (t : Tables) → g ≡ freshGraph → t ≡ noTables → machineBy g (fresh graphKind t .state) ≡ fresh graphKind noTables
+unfolding fresh
+fresh-map g t eg et = ap (λ g. machineBy g (fresh graphKind t .state)) eg ∙ ap (λ t. machineBy freshGraph (fresh graphKind t .state)) et
+
+-- what is told of the machine that was read is told of the one that is handed back
+pub told-of : {z : Result (Machine graphKind)} (ans ans₁ : Answer) (m m₁ : Machine graphKind) (n : ℕ) → ans₁ ≡ Refused n → ans ≡ Refused n → resultBy ans m ≡ z → resultBy ans₁ m₁ ≡ z
+told-of ans ans₁ m m₁ n e f h = ap (λ a. resultBy a m₁) e ∙ sym (ap (λ a. resultBy a m) f) ∙ h
+
+pub not-refused : (ans : Answer) (n : ℕ) → ans ≡ Accepted → ans ≡ Refused n → ⊥
+not-refused ans n e f = let z : _≡_ {A = ℕ} 0 1 = cc in omega arith

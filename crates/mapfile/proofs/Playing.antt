@@ -18,11 +18,12 @@ use Rattle.rules.specs.KeyLoop as key
 use Rattle.rules.specs.Calls.{graphKind, graphNavigator, fresh, key-call}
 use Rattle.rules.specs.Run.{readKeys, pairBytes, emptied, playKeys}
 use Rattle.keypairs.specs.declared.state.State.{State}
-use Rattle.keyloop.specs.declared.key.Handled.{Handled}
-use Rattle.keypairs.specs.View.{outcome, pairsOf, stateOf, trackerOf, blocks}
+use Rattle.keyloop.specs.declared.key.InputKeyResult.{InputKeyResult}
+use Rattle.keyparts.specs.View.{outcome}
+use Rattle.keypairs.specs.View.{pairsOf, stateOf, trackerOf, blocks}
 use Rattle.keyloop.specs.View.{keyOf}
-use Rattle.mapfile.specs.declared.play.Ran.{Ran}
-use Rattle.mapfile.specs.declared.play.Ran.the-variants.{Wrote, Refused}
+use Rattle.mapfile.specs.declared.play.RunResult.{RunResult}
+use Rattle.mapfile.specs.declared.play.RunResult.the-variants.{Wrote, Refused}
 use Rattle.mapfile.specs.View.{laid, machineBy, ranOf, Ends}
 use Rattle.mapfile.proofs.Writing.{laid-laid, length-laid}
 use Rattle.mapfile.proofs.PairBytes.{pairs-append}
@@ -46,10 +47,10 @@ module _ (x : Result (List Pair)) (out out₁ : List ℕ) where
 -- ---- the fresh machine
 
 abbrev pub fresh-state : State
-fresh-state = record { place = 0; mode = 0; context = record { count = 0; mark = 0 }; queued = 0 }
+fresh-state = record { place = 0; mode = 0; context = record { count = 0; mark = 0 }; queued = 0; trailed = 0 }
 
 abbrev pub none-queued : State → State
-none-queued s = record { place = s .place; mode = s .mode; context = s .context; queued = 0 }
+none-queued s = record { place = s .place; mode = s .mode; context = s .context; queued = 0; trailed = s .trailed }
 
 pub fresh-is : (t : Tables) (q : List ℕ) → stateOf fresh-state t q (replicate 520 0) [] ≡ fresh graphKind t .state
 unfolding fresh freshShared noContext noTracker trackerOf blocks graphNavigator
@@ -69,13 +70,13 @@ module _ (g : Graph) (t : Tables) (budget room : ℕ) (keys out₀ : List ℕ) w
     pub place : written ≡ length (pairBytes ps)
     pub bytes : out ≡ laid 0 (pairBytes ps) out₀
 
-  pub starts : (q ks₀ : List ℕ) → readKeys keys ≡ accept ks₀ → Playing ks₀ 0 0 (stateOf fresh-state t q (replicate 520 0) []) out₀
+  pub starts : (s : State) (q tr ks₀ : List ℕ) → s ≡ fresh-state → readKeys keys ≡ accept ks₀ → Playing ks₀ 0 0 (stateOf s t q (replicate 520 0) (take (s .trailed) tr)) out₀
   unfolding pairBytes laid
-  starts q ks₀ h = record {
+  starts s q tr ks₀ e h = record {
     ks = ks₀;
     ps = [];
     left = h;
-    same = ap (λ x. playKeys budget room ks₀ (machineBy g x) []) (fresh-is t q);
+    same = ap (λ x. playKeys budget room ks₀ (machineBy g x) []) (ap (λ s. stateOf s t q (replicate 520 0) (take (s .trailed) tr)) e ∙ fresh-is t q);
     place = refl;
     bytes = refl;
   }
@@ -95,10 +96,10 @@ module _ (g : Graph) (t : Tables) (budget room : ℕ) (keys out₀ : List ℕ) w
         never h = let z : _≡_ {A = ℕ} 0 1 = cc in omega arith
 
     -- a key, followed by a navigator that is the graph's
-    module _ (here : at < length keys) (v next : ℕ) (num : accept (v, drop next keys) ≡ number (drop at keys)) (r : Handled) (q sq tr : List ℕ)
+    module _ (here : at < length keys) (v next : ℕ) (num : accept (v, drop next keys) ≡ number (drop at keys)) (r : InputKeyResult) (q sq tr : List ℕ)
         {nav : Navigator ℕ} (en : nav ≡ graphNavigator g) (e : keyOf r t q sq tr ≡ inputKey nav (record { key = v; budget = budget }) x) where
       abbrev y : key.State ℕ
-      y = stateOf (r .state) t q sq (take (r .trailed) tr)
+      y = stateOf (r .state) t q sq (take (r .state .trailed) tr)
 
       abbrev Q : List Pair
       Q = pairsOf (r .state .queued) q
@@ -121,6 +122,7 @@ module _ (g : Graph) (t : Tables) (budget room : ℕ) (keys out₀ : List ℕ) w
       long = ap length (pairs-append (P .ps) Q) ∙ length-append (pairBytes (P .ps)) (pairBytes Q) ∙ ap (λ n. n + length (pairBytes Q)) (sym (P .place))
 
       pub key-refused : (out₁ : List ℕ) → (r .refusal ≡ 0 → ⊥) → Ends (whole ks₀) (Refused (r .refusal)) out₀ out₁
+      unfolding outcome
       key-refused out₁ h = ends-refused (whole ks₀) out₀ out₁ (r .refusal) (sym turned ∙ go (r .refusal) h)
         where
           go : (n : ℕ) → (n ≡ 0 → ⊥) → after (outcome n y) ≡ refuse n
@@ -128,6 +130,7 @@ module _ (g : Graph) (t : Tables) (budget room : ℕ) (keys out₀ : List ℕ) w
           go (suc n) h = refl
 
       accepted : r .refusal ≡ 0 → after (accept y) ≡ whole ks₀
+      unfolding outcome
       accepted h = ap (λ n. after (outcome n y)) (sym h) ∙ turned
 
       pub key-full : (out₁ : List ℕ) → r .refusal ≡ 0 → room < written + length (pairBytes Q) → Ends (whole ks₀) (Refused 10) out₀ out₁
@@ -136,7 +139,7 @@ module _ (g : Graph) (t : Tables) (budget room : ℕ) (keys out₀ : List ℕ) w
           (sym (accepted h) ∙ ap (λ b. unless b 10 (playKeys budget room rest (emptied (machineBy g x) y) (P .ps ++ Q))) (lt-leb (length (pairBytes (P .ps ++ Q))) room (omega (arith, long))))
 
       pub key-played : (out₁ : List ℕ) (w : ℕ) → r .refusal ≡ 0 → written + length (pairBytes Q) ≤ room → room ≤ length out₀ → w ≡ written + length (pairBytes Q) → out₁ ≡ laid written (pairBytes Q) out
-          → Playing ks₀ next w (stateOf (none-queued (r .state)) t q sq (take (r .trailed) tr)) out₁
+          → Playing ks₀ next w (stateOf (none-queued (r .state)) t q sq (take (r .state .trailed) tr)) out₁
       key-played out₁ w h l k hw ho = record {
         ks = rest;
         ps = P .ps ++ Q;

@@ -13,7 +13,7 @@ use Rattle.rules.specs.Run.{readKeys, playKeys, pairBytes, run, codeOf, outputO
 use Rattle.keyparts.specs.declared.answer.Answer.{Answer}
 use Rattle.keyparts.specs.declared.answer.Answer.the-variants.{Accepted, Refused as RefusedMap}
 use Rattle.keyparts.specs.View.{resultBy}
-use Rattle.mapfile.specs.declared.play.Ran.the-variants.{Wrote, Refused}
+use Rattle.mapfile.specs.declared.play.RunResult.the-variants.{Wrote, Refused}
 use Rattle.mapfile.specs.View.{laid, ranOf, Ends}
 use Rattle.mapfile.proofs.Playing.{ends-refused}
 

@@ -6,11 +6,9 @@ use mathlib.Core.Path.{_≡_, refl, sym, ap, _∙_}
 use mathlib.Core.List.{List, [], _∷_, _++_, append-assoc}
 use lib.ListN.{length, set, take, drop, length-append, length-drop}
 use lib.Seq.{sets-eq, take-at, drop-at, drop-drop, length-take-le}
-use borrow.Author.Tests.{lt-ltb, le-ltb, le-leb, lt-leb}
+use borrow.Author.Tests.{lt-ltb, le-ltb}
 use Rattle.rules.specs.Numbers.{bytesOf}
-use Rattle.mapfile.specs.declared.write.Put.{Put}
-use Rattle.mapfile.specs.declared.write.Put.the-variants.{At, Full}
-use Rattle.mapfile.specs.View.{laid, put}
+use Rattle.mapfile.specs.View.{laid}
 
 -- ---- a number's bytes
 
@@ -68,13 +66,3 @@ module _ (at : ℕ) (xs bs out : List ℕ) (h : at + length xs + length bs ≤ l
   pub laid-laid : laid (at + length xs) bs (laid at xs out) ≡ laid at (xs ++ bs) out
   unfolding laid
   laid-laid = rw (take-at front (drop end out) end length-front, behind, append-assoc (take at out) xs bs)
-
--- ---- where it fits
-
-pub put-in : (at : ℕ) (bs out : List ℕ) → at + length bs ≤ length out → _≡_ {A = Put × List ℕ} (At (at + length bs), laid at bs out) (put at bs out)
-unfolding put
-put-in at bs out h = rw (le-leb (at + length bs) (length out) h)
-
-pub put-full : (at : ℕ) (bs out : List ℕ) → length out < at + length bs → _≡_ {A = Put × List ℕ} (Full, out) (put at bs out)
-unfolding put
-put-full at bs out h = rw (lt-leb (at + length bs) (length out) h)

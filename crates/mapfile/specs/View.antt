@@ -2,9 +2,8 @@
 use Prim.Native.Nat.{ℕ, _+_, _≤_}
 use mathlib.Core.Path.{_≡_}
 use mathlib.Core.List.{List, _++_}
-use lib.Dec.{leb}
 use lib.ListN.{length, take, drop}
-use Rattle.rules.specs.Basics.{if_then_else_, Result, accept, refuse, _>>=_}
+use Rattle.rules.specs.Basics.{Result, accept, refuse, _>>=_}
 use Rattle.rules.specs.Values.{Pair}
 use Rattle.rules.specs.Numbers.{bytesOf}
 use Rattle.rules.specs.MapFile.{Reader}
@@ -12,15 +11,12 @@ use Rattle.rules.specs.Run.{pairBytes}
 use Rattle.rules.specs.Graph.{Graph}
 use Rattle.rules.specs.KeyLoop.{State}
 use Rattle.rules.specs.Calls.{Machine, graphKind, fresh}
-use Rattle.keyparts.specs.View.{resultBy}
-use Rattle.keygraph.specs.View.{graphIn}
-use Rattle.keypairs.specs.View.{tablesOf}
-use Rattle.mapfile.specs.declared.bind.Bound.{Bound}
+use Rattle.keyparts.specs.View.{resultBy, graphOf}
+use Rattle.keypairs.specs.View.{tablesIn}
+use Rattle.mapfile.specs.declared.bind.BindResult.{BindResult}
 use Rattle.mapfile.specs.declared.map.MapRead.{MapRead}
-use Rattle.mapfile.specs.declared.play.Ran.{Ran}
-use Rattle.mapfile.specs.declared.play.Ran.the-variants.{Wrote, Refused}
-use Rattle.mapfile.specs.declared.write.Put.{Put}
-use Rattle.mapfile.specs.declared.write.Put.the-variants.{At, Full}
+use Rattle.mapfile.specs.declared.play.RunResult.{RunResult}
+use Rattle.mapfile.specs.declared.play.RunResult.the-variants.{Wrote, Refused}
 
 -- ---- reading
 
@@ -34,12 +30,12 @@ abbrev pub machineBy : Graph → State ℕ → Machine graphKind
 machineBy g x = record { bindings = g; state = x }
 
 -- a machine and the bytes that are left, or the refusal
-abbrev pub boundOf : List ℕ → Bound → Machine graphKind → Result (Machine graphKind × List ℕ)
+abbrev pub boundOf : List ℕ → BindResult → Machine graphKind → Result (Machine graphKind × List ℕ)
 boundOf s r m = resultBy (r .answer) (m, drop (r .at) s)
 
 -- the fresh machine with the tables, over the graph that was read
 abbrev pub mapOf : MapRead → Machine graphKind
-mapOf r = machineBy (graphIn (r .words) (r .counts)) (fresh graphKind (tablesOf (r .sizes) (r .classes) (r .modes) (r .rules)) .state)
+mapOf r = machineBy (graphOf (r .graph)) (fresh graphKind (tablesIn (r .tables .words)) .state)
 
 -- ---- writing
 
@@ -51,22 +47,18 @@ bytesOfPair p = bytesOf (p .action) ++ bytesOf (p .context .count) ++ bytesOf (p
 unfoldable pub laid : ℕ → List ℕ → List ℕ → List ℕ
 laid at bs out = take at out ++ bs ++ drop (at + length bs) out
 
--- the place after them and the output, where they fit below its end; else nothing is written
-unfoldable pub put : ℕ → List ℕ → List ℕ → Put × List ℕ
-put at bs out = if leb (at + length bs) (length out) then (At (at + length bs), laid at bs out) else (Full, out)
-
 -- ---- the run
 
 -- what the code answers of a run
-abbrev pub ranOf : Result (List Pair) → Ran
+abbrev pub ranOf : Result (List Pair) → RunResult
 ranOf (accept ps) = Wrote (length (pairBytes ps))
 ranOf (refuse n) = Refused n
 
-abbrev pub Within : ℕ → Ran → Type 0
+abbrev pub Within : ℕ → RunResult → Type 0
 Within room (Wrote n) = n ≤ room
 Within room (Refused n) = Unit {0}
 
 -- the answer, and the output of a run that was not refused
-pub record Ends (x : Result (List Pair)) (r : Ran) (out out₁ : List ℕ) : Type 0 where
+pub record Ends (x : Result (List Pair)) (r : RunResult) (out out₁ : List ℕ) : Type 0 where
   pub told : r ≡ ranOf x
   pub kept : (ps : List Pair) → x ≡ accept ps → out₁ ≡ laid 0 (pairBytes ps) out

@@ -6,7 +6,7 @@ pub mod map;
 mod pairs;
 mod play;
 pub mod run;
-pub mod write;
+mod write;
 
-pub use mapparts::cursor;
 pub use mapparts::number;
+pub use mapparts::place;

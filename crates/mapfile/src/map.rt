@@ -1,27 +1,40 @@
 // The map file.
 use crate::bind;
-use keygraph::answer::Answer;
-use keygraph::graph::Counts;
-use keygraph::graph::Graph;
-use keypairs::state::Sizes;
-use mapparts::cursor::Cursor;
+use keyparts::answer::Answer;
+use keyparts::graph::Graph;
+use keyparts::tables::TableWords;
+use mapparts::place::FilePlace;
 use mapparts::tables;
 ghost use mathlib.Core.Path.{_≡_};
+ghost use Prim.Native.Nat.{ℕ};
 ghost use lib.ListN.{drop};
-ghost use Rattle.rules.specs.Calls.{Machine, graphKind};
+ghost use Rattle.rules.specs.Tables.{noTables};
+ghost use Rattle.rules.specs.Calls.{Machine, graphKind, fresh};
 ghost use Rattle.rules.specs.MapFile.{atEnd, readMap};
+ghost use Rattle.keyparts.specs.declared.answer.Answer.the-variants.{Refused};
 ghost use Rattle.keyparts.specs.View.{resultBy};
 ghost use Rattle.mapfile.specs.View.{mapOf};
 
-// The words of the graph and of the tables. Refused, only the number counts.
+// The graph and the tables of a map. Refused, there is no binding and no table in them.
 pub struct MapRead {
-    pub words: [u64; 4128],
-    pub counts: Counts,
-    pub classes: [u64; 16],
-    pub modes: [u64; 48],
-    pub rules: [u64; 64],
-    pub sizes: Sizes,
+    pub graph: Graph,
+    pub tables: TableWords,
     pub answer: Answer,
+}
+
+impl MapRead {
+    // Nothing of what was read.
+    fn refused(n: u16) -> MapRead
+        ensures { λ r. ⌜ (mapOf r ≡ fresh graphKind noTables) × (r .answer ≡ Refused n) ⌝ }
+    {
+        let graph = Graph::fresh();
+        let tables = TableWords::empty();
+        MapRead {
+            graph: graph,
+            tables: tables,
+            answer: Answer::Refused(n),
+        }
+    }
 }
 
 // Bytes that remain after the last binding are refused.
@@ -39,43 +52,34 @@ fn at_end(s: &[u8], at: usize, answer: Answer) -> Answer
     }
 }
 
+// Refused, the map is the fresh one with no tables, since a binding that is refused leaves a graph that is none.
 pub fn read_map(s: &[u8]) -> MapRead
     ensures { λ r. ⌜ resultBy (r .answer) (mapOf r) ≡ readMap (now (s .entry)) ⌝ }
+    ensures { λ r. ⌜ ((n : ℕ) → r .answer ≡ Refused n → mapOf r ≡ fresh graphKind noTables) ⌝ }
 {
-    let start = Cursor { at: 0, refusal: 0 };
+    let start = FilePlace { at: 0, refusal: 0 };
     let t = tables::read_tables(s, start);
-    let a = t.cursor;
+    let a = t.place;
     let n = a.number(s);
-    let b = n.cursor;
-    let classes = t.classes;
-    let modes = t.modes;
-    let rules = t.rules;
-    let sizes = t.sizes;
-    let fresh = Graph::fresh();
-    let mut words = fresh.words;
-    let none = fresh.counts;
+    let b = n.place;
     if b.refusal != 0 {
-        return MapRead {
-            words: words,
-            counts: none,
-            classes: classes,
-            modes: modes,
-            rules: rules,
-            sizes: sizes,
-            answer: Answer::Refused(b.refusal),
-        };
+        return MapRead::refused(b.refusal);
     }
-    let r = bind::read_bindings(s, &mut words, none, n.value, b.at);
-    let k = r.counts;
+    let mut graph = Graph::fresh();
+    let none = graph.counts;
+    let r = bind::read_bindings_or_scratch(s, &mut graph.words, none, n.value, b.at);
     let read = r.answer;
     let answer = at_end(s, r.at, read);
+    match answer {
+        Answer::Refused(n) => return MapRead::refused(n),
+        Answer::Accepted => {}
+    }
+    let counts = r.counts;
+    let tables = t.tables;
+    graph.counts = counts;
     MapRead {
-        words: words,
-        counts: k,
-        classes: classes,
-        modes: modes,
-        rules: rules,
-        sizes: sizes,
+        graph: graph,
+        tables: tables,
         answer: answer,
     }
 }

@@ -2,12 +2,16 @@
 // a key copies no map.
 use crate::map;
 use crate::pairs;
-use keygraph::answer::Answer;
-use keygraph::graph::Counts;
 use keyloop::key;
-use keypairs::context::Context;
-use keypairs::state::Sizes;
+use keypairs::pair::Pair;
 use keypairs::state::State;
+use keypairs::tracker::SequenceTracker;
+use keyparts::answer::Answer;
+use keyparts::graph::Counts;
+use keyparts::graph::Graph;
+use keyparts::index::Index;
+use keyparts::layout;
+use keyparts::tables::TableWords;
 use mapparts::keys;
 use mapparts::number;
 use mapparts::number::Read;
@@ -18,95 +22,76 @@ ghost use lib.ListN.{length};
 ghost use Rattle.rules.specs.Basics.{accept};
 ghost use Rattle.rules.specs.Calls.{graphKind, graphNavigator, fresh};
 ghost use Rattle.rules.specs.Run.{readKeys, playKeys, run};
-ghost use Rattle.keygraph.specs.View.{graphIn};
-ghost use Rattle.keypairs.specs.View.{tablesOf};
+ghost use Rattle.keyparts.specs.View.{graphIn};
+ghost use Rattle.keypairs.specs.View.{tablesIn};
 ghost use Rattle.keyloop.specs.View.{linkNavigator};
 ghost use Rattle.mapfile.specs.View.{machineBy, Within, Ends};
 
 // How many bytes were written, or the number of the refusal.
-pub enum Ran {
+pub enum RunResult {
     Wrote(usize),
     Refused(u16),
 }
 
-// After each key its pairs are written, and the queue is empty.
+// After each key its pairs are written, and the queue is empty. A refused key leaves scratch in the live arrays, and ends it.
 fn play_keys<'a>(
     keys: &[u8],
-    words: &'a [u64; 4128],
+    words: &'a [u64; Graph::WORDS],
     counts: Counts,
-    links: &'a [u16; 2304],
-    classes: &'a [u64],
-    modes: &'a [u64],
-    rules: &'a [u64],
-    sizes: Sizes,
+    links: &'a [u16; Index::LINKS],
+    tables: &'a [u64; TableWords::WORDS],
     out: &mut [u8],
     room: usize,
     budget: u16,
-) -> Ran
-    requires { ⌜ (length (now words) ≡ 4128) × (length (now links) ≡ 2304) × (room ≤ length (now out)) ⌝ }
+) -> RunResult
+    requires { ⌜ (length (now words) ≡ 4128) × (length (now links) ≡ 2304) × (length (now tables) ≡ 131) × (room ≤ length (now out)) ⌝ }
     requires { ⌜ linkNavigator (now words) counts (now links) ≡ graphNavigator (graphIn (now words) counts) ⌝ }
     ensures { λ r. ⌜ Within room r ⌝ }
-    ensures { λ r. ⌜ ((ks : List ℕ) → readKeys (now (keys .entry)) ≡ accept ks → Ends (playKeys budget room ks (machineBy (graphIn (now (words .entry)) counts) (fresh graphKind (tablesOf sizes (now (classes .entry)) (now (modes .entry)) (now (rules .entry))) .state)) []) r (now (out .entry)) (now (out .exit))) ⌝ }
+    ensures { λ r. ⌜ ((ks : List ℕ) → readKeys (now (keys .entry)) ≡ accept ks → Ends (playKeys budget room ks (machineBy (graphIn (now (words .entry)) counts) (fresh graphKind (tablesIn (now (tables .entry))) .state)) []) r (now (out .entry)) (now (out .exit))) ⌝ }
 {
-    let mut queue = [0u64; 256];
-    let mut sequences = [0u64; 520];
-    let mut trail = [0u16; 64];
-    let mut state = State {
-        place: 0,
-        mode: 0,
-        context: Context { count: 0, mark: 0 },
-        queued: 0,
-    };
-    let mut trailed = 0u16;
+    let mut queue = [0u64; Pair::QUEUE as usize];
+    let mut sequences = [0u64; SequenceTracker::ALL];
+    let mut trail = [0u16; State::TRAIL as usize];
+    let mut state = State::fresh();
     let mut written = 0usize;
     let mut at = 0usize;
     while at < keys.len() {
         let r = number::read_number(keys, at);
         match r {
-            Read::Bad => return Ran::Refused(9),
+            Read::Bad => return RunResult::Refused(9),
             Read::Number { value, next } => {
-                let k = key::input_key(
+                let k = key::input_key_or_scratch(
                     words,
                     counts,
                     links,
-                    classes,
-                    modes,
-                    rules,
-                    sizes,
+                    tables,
                     &mut queue,
                     &mut sequences,
                     &mut trail,
                     state,
-                    trailed,
                     value,
                     budget,
                 );
                 if k.refusal != 0 {
-                    return Ran::Refused(k.refusal);
+                    return RunResult::Refused(k.refusal);
                 }
-                let s = k.state;
+                let mut s = k.state;
                 let size = pairs::pairs_size(&queue, s.queued);
                 if room - written < size {
-                    return Ran::Refused(10);
+                    return RunResult::Refused(10);
                 }
                 written = pairs::store_pairs(out, written, &queue, s.queued);
-                let context = s.context;
-                state = State {
-                    place: s.place,
-                    mode: s.mode,
-                    context: context,
-                    queued: 0,
-                };
-                trailed = k.trailed;
+                s.queued = 0;
+                state = s;
                 at = next;
             }
         }
     }
-    Ran::Wrote(written)
+    RunResult::Wrote(written)
 }
 
 // The map is read whole before the keys, and all keys before the first is tried; one index serves them all.
-pub(crate) fn play(map: &[u8], keys: &[u8], out: &mut [u8], room: usize, budget: u16) -> Ran
+pub(crate) fn play(map: &[u8], keys: &[u8], out: &mut [u8], room: usize, budget: u16) -> RunResult
     requires { ⌜ room ≤ length (now out) ⌝ }
     ensures { λ r. ⌜ Within room r ⌝ }
     ensures { λ r. ⌜ ((lent : ℕ) → room ≡ min lent 65536 → Ends (run (now (map .entry)) (now (keys .entry)) budget lent) r (now (out .entry)) (now (out .exit))) ⌝ }
@@ -114,26 +99,24 @@ pub(crate) fn play(map: &[u8], keys: &[u8], out: &mut [u8], room: usize, budget:
     let m = map::read_map(map);
     let answer = m.answer;
     match answer {
-        Answer::Refused(n) => return Ran::Refused(n),
+        Answer::Refused(n) => return RunResult::Refused(n),
         Answer::Accepted => {}
     }
     if keys::check_keys(keys) {
-        let counts = m.counts;
-        let sizes = m.sizes;
-        let index = key::index_of(&m.words, counts);
+        let graph = m.graph;
+        let tables = m.tables;
+        let counts = graph.counts;
+        let index = layout::index_of(&graph.words, counts.edges);
         return play_keys(
             keys,
-            &m.words,
+            &graph.words,
             counts,
             &index.links,
-            &m.classes,
-            &m.modes,
-            &m.rules,
-            sizes,
+            &tables.words,
             out,
             room,
             budget,
         );
     }
-    Ran::Refused(9)
+    RunResult::Refused(9)
 }

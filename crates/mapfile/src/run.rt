@@ -1,6 +1,6 @@
 // The run, for the C firmware.
 use crate::play;
-use crate::play::Ran;
+use crate::play::RunResult;
 use crate::write;
 ghost use mathlib.Core.Path.{_≡_};
 ghost use Prim.Native.Nat.{min};
@@ -29,8 +29,8 @@ pub extern "C" fn keymap_run(map: &[u8], keys: &[u8], output: &mut [u8], budget:
     let room = room_of(end);
     let r = play::play(map, keys, output, room, budget);
     match r {
-        Ran::Wrote(n) => return (n as u64) * 32,
-        Ran::Refused(n) => {
+        RunResult::Wrote(n) => return (n as u64) * 32,
+        RunResult::Refused(n) => {
             write::clear(output, end);
             return n as u64;
         }

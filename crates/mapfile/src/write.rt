@@ -4,13 +4,7 @@ ghost use Prim.Native.Nat.{_+_, _≤_, _<_};
 ghost use mathlib.Core.List.{_++_};
 ghost use lib.ListN.{length, drop, replicate};
 ghost use Rattle.rules.specs.Numbers.{bytesOf};
-ghost use Rattle.mapfile.specs.View.{laid, put};
-
-// The place after what was written, or that it does not fit: then nothing is written.
-pub enum Put {
-    At(usize),
-    Full,
-}
+ghost use Rattle.mapfile.specs.View.{laid};
 
 // How many bytes a number takes.
 pub(crate) fn size_of(value: u16) -> usize
@@ -39,20 +33,6 @@ pub(crate) fn store(out: &mut [u8], at: usize, value: u16)
     out[at] = (value % 128 + 128) as u8;
     out[at + 1] = (value / 128 % 128 + 128) as u8;
     out[at + 2] = (value / 16384) as u8;
-}
-
-pub fn put_number(out: &mut [u8], at: usize, value: u16) -> Put
-    ensures { λ r. ⌜ (r, now (out .exit)) ≡ put at (bytesOf value) (now (out .entry)) ⌝ }
-{
-    let n = size_of(value);
-    if out.len() < at {
-        return Put::Full;
-    }
-    if out.len() - at < n {
-        return Put::Full;
-    }
-    store(out, at, value);
-    Put::At(at + n)
 }
 
 // Zeros, up to the place `end`.

@@ -7,11 +7,11 @@ use mathlib.Core.Path.{_≡_, refl, _∙_}
 use lib.ListN.{length, drop}
 use Rattle.rules.specs.KeyLoop.{State}
 use Rattle.rules.specs.MapFile.{readBindings}
-use Rattle.keygraph.specs.View.{graphIn}
+use Rattle.keyparts.specs.View.{graphIn}
 use Rattle.mapfile.specs.View.{machineBy}
 use Rattle.mapfile.proofs.Bindings.{one-more, no-more, none-left}
-use Rattle.mapfile.proofs.bind.read_bindings.Statement.{statement}
-use Rattle.mapfile.proofs.bind.read_bindings.Tie as tie
+use Rattle.mapfile.proofs.bind.read_bindings_or_scratch.Statement.{statement}
+use Rattle.mapfile.proofs.bind.read_bindings_or_scratch.Tie as tie
 
 abbrev Inv-loop : tie.InvT-loop
 Inv-loop s words₀ n from k₀ at₀ left₀ words k at left =
@@ -23,8 +23,8 @@ abbrev μ-loop : tie.MeasureT-loop
 loop-holds : tie.Need-loop-holds Inv-loop μ-loop
 loop-holds c = (search needs, c .before .pre, λ x. refl)
 
-read-binding-requires : tie.Need-read-binding-requires Inv-loop μ-loop
-read-binding-requires c κs = c .before .before .loop .inv .1
+read-binding-or-scratch-requires : tie.Need-read-binding-or-scratch-requires Inv-loop μ-loop
+read-binding-or-scratch-requires c κs = c .before .before .loop .inv .1
 
 enum-told : tie.Need-enum-told Inv-loop μ-loop
 enum-told c = search needs
@@ -33,7 +33,7 @@ returns : tie.Need-returns Inv-loop μ-loop
 returns c =
     let s = c .before .before .before .before .before .before .before .args .s .now in
     let L = c .before .before .before .before .before .loop in
-    let k = c .before .before .read-binding in
+    let k = c .before .before .read-binding-or-scratch in
     (k .ensures .0, λ x. no-more (k .result .answer) (L .left) (machineBy (graphIn (L .words) (L .k)) x) (machineBy (graphIn (k .last .1 .0) (k .result .counts)) x) (drop (L .at) s) (drop (k .result .at) s) _ (c .before .before .before .before .loop-test .taken) (c .enum-told .given .1) (k .ensures .1 x) ∙ L .inv .2 x)
 
 enum-told-2 : tie.Need-enum-told-2 Inv-loop μ-loop
@@ -49,7 +49,7 @@ loop-again : tie.Need-loop-again Inv-loop μ-loop
 loop-again c =
     let s = c .before .before .before .before .before .before .before .before .args .s .now in
     let L = c .before .before .before .before .before .before .loop in
-    let k = c .before .before .before .read-binding in
+    let k = c .before .before .before .read-binding-or-scratch in
     (omega arith, k .ensures .0, λ x. one-more (k .result .answer) (L .left) (machineBy (graphIn (L .words) (L .k)) x) (machineBy (graphIn (k .last .1 .0) (k .result .counts)) x) (drop (L .at) s) (drop (k .result .at) s) (c .before .before .before .before .before .loop-test .taken) (c .before .enum-told2 .given .1) (k .ensures .1 x) ∙ L .inv .2 x)
 
 returns-2 : tie.Need-returns-2 Inv-loop μ-loop
@@ -58,14 +58,14 @@ returns-2 c =
     let L = c .before .loop in
     (L .inv .1, λ x. none-left (L .left) (machineBy (graphIn (L .words) (L .k)) x) (drop (L .at) s) (omega arith) ∙ L .inv .2 x)
 
-pub read-bindings-spec : {M : Type 1} → statement M
-read-bindings-spec =
+pub read-bindings-or-scratch-spec : {M : Type 1} → statement M
+read-bindings-or-scratch-spec =
     tie.close
     (tie.spec
     Inv-loop
     μ-loop
     loop-holds
-    read-binding-requires
+    read-binding-or-scratch-requires
     enum-told
     returns
     enum-told-2

@@ -1,24 +1,24 @@
 -- A refusal met in reading is kept; else what is added is what the rules' call comes to.
-use Rattle.rules.specs.Calls.{map-call}
-use Rattle.keygraph.specs.View.{graphIn}
+use Rattle.rules.specs.Calls.{prefix-call}
+use Rattle.keyparts.specs.View.{graphIn}
 use Rattle.mapfile.specs.View.{machineBy}
 use Rattle.mapfile.proofs.Bindings.{comes-refused, bound}
 use borrow.Author.Needs.{needs}
-use Rattle.mapfile.proofs.bind.bind_mapping.Statement.{statement}
-use Rattle.mapfile.proofs.bind.bind_mapping.Tie as tie
+use Rattle.mapfile.proofs.bind.bind_prefix_or_scratch.Statement.{statement}
+use Rattle.mapfile.proofs.bind.bind_prefix_or_scratch.Tie as tie
 
 returns : tie.Need-returns
 returns c = (c .before .before .pre, λ s x. comes-refused s (c .before .before .args .from) _ (c .if1 .taken))
 
-add-mapping-in-requires : tie.Need-add-mapping-in-requires
-add-mapping-in-requires c κs = search needs
+add-prefix-or-scratch-requires : tie.Need-add-prefix-or-scratch-requires
+add-prefix-or-scratch-requires c κs = search needs
 
 returns-2 : tie.Need-returns-2
-unfolding map-call
+unfolding prefix-call
 returns-2 c =
     let a = c .before .before .before .before .before .args in
-    let k = c .before .add-mapping-in in
+    let k = c .before .add-prefix-or-scratch in
     (k .ensures .0, λ s x. bound s (a .from) (k .result .answer) (graphIn (k .last .0) (k .result .counts)) (machineBy (graphIn (a .words .now) (a .counts)) x) (c .before .before .before .if1 .left) (k .ensures .1))
 
-pub bind-mapping-spec : {M : Type 1} → statement M
-bind-mapping-spec = tie.close (tie.spec returns add-mapping-in-requires returns-2)
+pub bind-prefix-or-scratch-spec : {M : Type 1} → statement M
+bind-prefix-or-scratch-spec = tie.close (tie.spec returns add-prefix-or-scratch-requires returns-2)
