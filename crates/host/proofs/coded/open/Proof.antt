@@ -12,22 +12,22 @@ read-map-requires c κs = search needs
 enum-known-answer : tie.Need-enum-known-answer
 enum-known-answer c = search needs
 
-cast-t6 : tie.Need-cast-t6
-cast-t6 c = search needs
+cast-t8 : tie.Need-cast-t8
+cast-t8 c = search needs
 
 returns : tie.Need-returns
 returns c = let a = c .before .before .before .before .before .args in let r = c .before .before .before .read-map in
-    refused (machineOf (a .m)) (mapOf (r .result)) (r .result .answer) (a .map .now) (r .ensures) _ (c .before .answer .given .1)
+    refused (machineOf (a .m)) (mapOf (r .result)) (r .result .answer) (a .map .now) (r .ensures .0) _ (c .before .answer .given .1)
 
 enum-told : tie.Need-enum-told
 enum-told c = search needs
 
-machine-of-requires : tie.Need-machine-of-requires
-machine-of-requires c κs = search needs
+over-requires : tie.Need-over-requires
+over-requires c κs = search needs
 
 returns-2 : tie.Need-returns-2
-returns-2 c = let a = c .before .before .before .before .before .args in let r = c .before .before .before .read-map in
-    accepted (machineOf (a .m)) (mapOf (r .result)) (r .result .answer) (a .map .now) (r .ensures) (machineOf (c .machine-of .result)) (c .before .enum-told .given .1) (c .machine-of .ensures)
+returns-2 c = let a = c .before .before .before .before .before .before .before .args in let r = c .before .before .before .before .before .read-map in
+    accepted (machineOf (a .m)) (mapOf (r .result)) (r .result .answer) (a .map .now) (r .ensures .0) (machineOf (c .over .result)) (c .before .before .before .enum-told .given .1) (c .over .ensures)
 
 pub open-spec : {M : Type 1} → statement M
 open-spec =
@@ -35,8 +35,8 @@ open-spec =
     (tie.spec
     read-map-requires
     enum-known-answer
-    cast-t6
+    cast-t8
     returns
     enum-told
-    machine-of-requires
+    over-requires
     returns-2)
