@@ -103,16 +103,14 @@ pub(crate) fn play(map: &[u8], keys: &[u8], out: &mut [u8], room: usize, budget:
         Answer::Accepted => {}
     }
     if keys::check_keys(keys) {
-        let graph = m.graph;
-        let tables = m.tables;
-        let counts = graph.counts;
-        let index = layout::index_of(&graph.words, counts.edges);
+        let counts = m.graph.counts;
+        let index = layout::index_of(&m.graph.words, counts.edges);
         return play_keys(
             keys,
-            &graph.words,
+            &m.graph.words,
             counts,
             &index.links,
-            &tables.words,
+            &m.tables.words,
             out,
             room,
             budget,

@@ -38,18 +38,18 @@ long : (c : tie.After-read-map) → length (c .read-map .result .tables .words) 
 long c = search needs
 
 play-keys-requires : tie.Need-play-keys-requires
-play-keys-requires c κs = ((search needs, search needs, long (c .before .before .before .before .before .before .before .before .before .before .before .before .before .before .before .before .before), search needs), index-leads _ _ _ (c .before .before .before .before .before .before .before .index-of .ensures))
+play-keys-requires c κs = ((search needs, search needs, long (c .before .before .before .before .before .before .before .before .before .before .before .before .before .before), search needs), index-leads _ _ _ (c .before .before .before .before .before .before .index-of .ensures))
 
 same-length : tie.Need-same-length
 same-length c = search needs
 
 returns-2 : tie.Need-returns-2
 returns-2 c =
-    let a = c .before .before .before .before .before .before .before .before .before .before .before .before .before .before .before .before .before .before .before .before .before .before .before .before .args in
-    let m = c .before .before .before .before .before .before .before .before .before .before .before .before .before .before .before .before .before .before .before .before .read-map in
+    let a = c .before .before .before .before .before .before .before .before .before .before .before .before .before .before .before .before .before .before .before .before .before .args in
+    let m = c .before .before .before .before .before .before .before .before .before .before .before .before .before .before .before .before .before .read-map in
     let p = c .before .before .play-keys in
-    let k : Checked true (readKeys (a .keys .now)) = subst (λ b. Checked b (readKeys (a .keys .now))) (c .before .before .before .before .before .before .before .before .before .before .before .before .before .before .before .before .if1 .taken) (c .before .before .before .before .before .before .before .before .before .before .before .before .before .before .before .before .before .check-keys .ensures) in
-    (p .ensures .0, λ lent e. subst (λ x. Ends x (p .result) (a .out .now) (p .last .1 .1 .1 .1 .1 .0)) (ap (λ n. playKeys (a .budget) n (k .0) (mapOf (m .result)) []) e ∙ sym (plays (a .map .now) (a .keys .now) (a .budget) lent (m .result .answer) (mapOf (m .result)) (m .ensures .0) (c .before .before .before .before .before .before .before .before .before .before .before .before .before .before .before .before .before .before .enum-told .given .1) (k .0) (k .1))) (p .ensures .1 (k .0) (k .1)))
+    let k : Checked true (readKeys (a .keys .now)) = subst (λ b. Checked b (readKeys (a .keys .now))) (c .before .before .before .before .before .before .before .before .before .before .before .before .before .if1 .taken) (c .before .before .before .before .before .before .before .before .before .before .before .before .before .before .check-keys .ensures) in
+    (p .ensures .0, λ lent e. subst (λ x. Ends x (p .result) (a .out .now) (p .last .1 .1 .1 .1 .1 .0)) (ap (λ n. playKeys (a .budget) n (k .0) (mapOf (m .result)) []) e ∙ sym (plays (a .map .now) (a .keys .now) (a .budget) lent (m .result .answer) (mapOf (m .result)) (m .ensures .0) (c .before .before .before .before .before .before .before .before .before .before .before .before .before .before .before .enum-told .given .1) (k .0) (k .1))) (p .ensures .1 (k .0) (k .1)))
 
 returns-3 : tie.Need-returns-3
 returns-3 c =
