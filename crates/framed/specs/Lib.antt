@@ -1,1 +1,2 @@
+-- How many inputs stand in one.
 pub mod Frames

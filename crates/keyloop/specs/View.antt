@@ -39,7 +39,7 @@ resultBy RetryAfter s = key.RetryAfter s
 -- a round that comes to x leaves r: what is to be done, and the state after the event hook
 pub record Turns (x : key.Turn ℕ) (k : ℕ) (s : State) (r : TurnResult) : Type 0 where
   pub result : resultBy (r .result) (stepOf (r .step)) ≡ x .result
-  pub state : (t : t.Tables) (q sq tr : List ℕ) → stateOf (r .state) t q sq tr ≡ key.at (x .place) (key.runHook (x .event) k (sharedOf s t q sq tr))
+  pub state : (ts : t.Tables) (q sq tr : List ℕ) → stateOf (r .state) ts q sq tr ≡ key.at (x .place) (key.runHook (x .event) k (sharedOf s ts q sq tr))
 
 -- ---- a key
 

@@ -78,7 +78,7 @@ pub fn goto_mode_or_scratch(
 ) -> GotoResult
     requires { ⌜ (length (now tables) ≡ 131) × (length (now queue) ≡ 256) × (length (now sequences) ≡ 520) ⌝ }
     ensures { λ _. ⌜ (length (now (queue .exit)) ≡ 256) × (length (now (sequences .exit)) ≡ 520) ⌝ }
-    ensures { λ r. ⌜ ((g : g.Graph) (tr : List ℕ) → outcome (r .refusal) (stateOf (r .state) (tablesIn (now (tables .entry))) (now (queue .exit)) (now (sequences .exit)) tr) ≡ key.gotoMode (graphNavigator g) mode (sharedOf s (tablesIn (now (tables .entry))) (now (queue .entry)) (now (sequences .entry)) tr)) ⌝ }
+    ensures { λ r. ⌜ ((bs : g.Graph) (tr : List ℕ) → outcome (r .refusal) (stateOf (r .state) (tablesIn (now (tables .entry))) (now (queue .exit)) (now (sequences .exit)) tr) ≡ key.gotoMode (graphNavigator bs) mode (sharedOf s (tablesIn (now (tables .entry))) (now (queue .entry)) (now (sequences .entry)) tr)) ⌝ }
 {
     // The rules of the mode that is entered apply to its enter list.
     let entered = mode;
@@ -134,7 +134,7 @@ pub(crate) fn give_goto(
 ) -> GotoResult
     requires { ⌜ (length (now tables) ≡ 131) × (length (now queue) ≡ 256) × (length (now sequences) ≡ 520) ⌝ }
     ensures { λ _. ⌜ (length (now (queue .exit)) ≡ 256) × (length (now (sequences .exit)) ≡ 520) ⌝ }
-    ensures { λ r. ⌜ ((g : g.Graph) (tr : List ℕ) → outcome (r .refusal) (stateOf (r .state) (tablesIn (now (tables .entry))) (now (queue .exit)) (now (sequences .exit)) tr) ≡ giveGoto g (actionsBy actions) (maybeOf next) (sharedOf s (tablesIn (now (tables .entry))) (now (queue .entry)) (now (sequences .entry)) tr)) ⌝ }
+    ensures { λ r. ⌜ ((bs : g.Graph) (tr : List ℕ) → outcome (r .refusal) (stateOf (r .state) (tablesIn (now (tables .entry))) (now (queue .exit)) (now (sequences .exit)) tr) ≡ giveGoto bs (actionsBy actions) (maybeOf next) (sharedOf s (tablesIn (now (tables .entry))) (now (queue .entry)) (now (sequences .entry)) tr)) ⌝ }
 {
     let a = or_default(actions);
     let context = s.context;

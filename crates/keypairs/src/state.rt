@@ -38,7 +38,7 @@ impl State {
 
     // The mark of a step, if it has one.
     pub(crate) fn marked(self, mark: Maybe) -> State
-        ensures { λ r. ⌜ ((t : t.Tables) (q sq tr : List ℕ) → stateOf r t q sq tr ≡ key.at (self .place) (key.setMark (maybeOf mark) (sharedOf self t q sq tr))) ⌝ }
+        ensures { λ r. ⌜ ((ts : t.Tables) (q sq tr : List ℕ) → stateOf r ts q sq tr ≡ key.at (self .place) (key.setMark (maybeOf mark) (sharedOf self ts q sq tr))) ⌝ }
     {
         match mark {
             Maybe::Nothing => return self,

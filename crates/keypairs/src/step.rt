@@ -69,7 +69,7 @@ pub fn step_or_scratch(
 ) -> GotoResult
     requires { ⌜ (length (now tables) ≡ 131) × (length (now queue) ≡ 256) × (length (now sequences) ≡ 520) ⌝ }
     ensures { λ _. ⌜ (length (now (queue .exit)) ≡ 256) × (length (now (sequences .exit)) ≡ 520) ⌝ }
-    ensures { λ r. ⌜ ((g : g.Graph) (tr : List ℕ) → outcome (r .refusal) (stateOf (r .state) (tablesIn (now (tables .entry))) (now (queue .exit)) (now (sequences .exit)) tr) ≡ key.step (graphNavigator g) (stepOf what) (stateOf s (tablesIn (now (tables .entry))) (now (queue .entry)) (now (sequences .entry)) tr)) ⌝ }
+    ensures { λ r. ⌜ ((bs : g.Graph) (tr : List ℕ) → outcome (r .refusal) (stateOf (r .state) (tablesIn (now (tables .entry))) (now (queue .exit)) (now (sequences .exit)) tr) ≡ key.step (graphNavigator bs) (stepOf what) (stateOf s (tablesIn (now (tables .entry))) (now (queue .entry)) (now (sequences .entry)) tr)) ⌝ }
 {
     let mark = what.mark;
     let next = what.next;

@@ -10,11 +10,11 @@ ghost use Rattle.rules.specs.Run.{run, answered};
 // The bytes of the output that a run uses at most.
 pub const MOST_OUTPUT: usize = 65536;
 
-fn room_of(length: usize) -> usize
-    ensures { λ r. ⌜ r ≡ min length 65536 ⌝ }
+fn room_of(lent: usize) -> usize
+    ensures { λ r. ⌜ r ≡ min lent 65536 ⌝ }
 {
-    if length < MOST_OUTPUT {
-        return length;
+    if lent < MOST_OUTPUT {
+        return lent;
     }
     MOST_OUTPUT
 }
