@@ -5,17 +5,17 @@ use keygraph::step::Step;
 use keymachine::context::Context;
 use keymachine::context::Override;
 use keymachine::machine::ModalMachine;
-use mapfile::cursor::Cursor;
+use mapparts::place::FilePlace;
 
 // The machine, and the place after the call.
 struct Played {
     machine: ModalMachine,
-    cursor: Cursor,
+    place: FilePlace,
 }
 
 struct OverRead {
     over: Override,
-    cursor: Cursor,
+    place: FilePlace,
 }
 
 fn end_line(machine: ModalMachine) {
@@ -23,27 +23,27 @@ fn end_line(machine: ModalMachine) {
 }
 
 // A call with a number that has no value of its type.
-fn unknown(machine: ModalMachine, cursor: Cursor) -> Played {
+fn unknown(machine: ModalMachine, place: FilePlace) -> Played {
     print::refused(1);
     end_line(machine);
     Played {
         machine: machine,
-        cursor: cursor,
+        place: place,
     }
 }
 
 // Mode, path and step.
-fn play_map(s: &[u8], from: Cursor, machine: ModalMachine) -> Played {
+fn play_map(s: &[u8], from: FilePlace, machine: ModalMachine) -> Played {
     let mode = from.number(s);
-    let a = mode.cursor;
+    let a = mode.place;
     let path = parts::read_path(s, a);
-    let b = path.cursor;
+    let b = path.place;
     let step = parts::read_step(s, b);
-    let c = step.cursor;
+    let c = step.place;
     if c.refusal != 0 {
         return Played {
             machine: machine,
-            cursor: c,
+            place: c,
         };
     }
     if path.known {
@@ -57,22 +57,22 @@ fn play_map(s: &[u8], from: Cursor, machine: ModalMachine) -> Played {
             end_line(left);
             return Played {
                 machine: left,
-                cursor: c,
+                place: c,
             };
         }
     }
     unknown(machine, c)
 }
 
-fn play_prefix(s: &[u8], from: Cursor, machine: ModalMachine) -> Played {
+fn play_prefix(s: &[u8], from: FilePlace, machine: ModalMachine) -> Played {
     let mode = from.number(s);
-    let a = mode.cursor;
+    let a = mode.place;
     let path = parts::read_path(s, a);
-    let c = path.cursor;
+    let c = path.place;
     if c.refusal != 0 {
         return Played {
             machine: machine,
-            cursor: c,
+            place: c,
         };
     }
     if path.known {
@@ -85,23 +85,23 @@ fn play_prefix(s: &[u8], from: Cursor, machine: ModalMachine) -> Played {
         end_line(left);
         return Played {
             machine: left,
-            cursor: c,
+            place: c,
         };
     }
     unknown(machine, c)
 }
 
-fn play_prefix_step(s: &[u8], from: Cursor, machine: ModalMachine) -> Played {
+fn play_prefix_step(s: &[u8], from: FilePlace, machine: ModalMachine) -> Played {
     let mode = from.number(s);
-    let a = mode.cursor;
+    let a = mode.place;
     let path = parts::read_path(s, a);
-    let b = path.cursor;
+    let b = path.place;
     let step = parts::read_step(s, b);
-    let c = step.cursor;
+    let c = step.place;
     if c.refusal != 0 {
         return Played {
             machine: machine,
-            cursor: c,
+            place: c,
         };
     }
     if path.known {
@@ -115,7 +115,7 @@ fn play_prefix_step(s: &[u8], from: Cursor, machine: ModalMachine) -> Played {
             end_line(left);
             return Played {
                 machine: left,
-                cursor: c,
+                place: c,
             };
         }
     }
@@ -123,15 +123,15 @@ fn play_prefix_step(s: &[u8], from: Cursor, machine: ModalMachine) -> Played {
 }
 
 // Key and budget.
-fn play_key(s: &[u8], from: Cursor, machine: ModalMachine) -> Played {
+fn play_key(s: &[u8], from: FilePlace, machine: ModalMachine) -> Played {
     let key = from.number(s);
-    let a = key.cursor;
+    let a = key.place;
     let budget = a.number(s);
-    let c = budget.cursor;
+    let c = budget.place;
     if c.refusal != 0 {
         return Played {
             machine: machine,
-            cursor: c,
+            place: c,
         };
     }
     let r = machine.input_key(key.value, budget.value);
@@ -141,11 +141,11 @@ fn play_key(s: &[u8], from: Cursor, machine: ModalMachine) -> Played {
     end_line(left);
     Played {
         machine: left,
-        cursor: c,
+        place: c,
     }
 }
 
-fn play_pop(from: Cursor, machine: ModalMachine) -> Played {
+fn play_pop(from: FilePlace, machine: ModalMachine) -> Played {
     let r = machine.pop();
     let left = r.machine;
     let answer = r.answer;
@@ -153,51 +153,51 @@ fn play_pop(from: Cursor, machine: ModalMachine) -> Played {
     end_line(left);
     Played {
         machine: left,
-        cursor: from,
+        place: from,
     }
 }
 
 // 0, or 1 with a count and a mark; any other number is a malformed call.
-fn read_override(s: &[u8], from: Cursor) -> OverRead {
+fn read_override(s: &[u8], from: FilePlace) -> OverRead {
     let k = from.number(s);
-    let a = k.cursor;
+    let a = k.place;
     if k.value == 0 {
         return OverRead {
             over: Override::Nothing,
-            cursor: a,
+            place: a,
         };
     }
     if k.value > 1 {
         return OverRead {
             over: Override::Nothing,
-            cursor: Cursor {
+            place: FilePlace {
                 at: a.at,
                 refusal: 9,
             },
         };
     }
     let count = a.number(s);
-    let b = count.cursor;
+    let b = count.place;
     let mark = b.number(s);
-    let c = mark.cursor;
+    let c = mark.place;
     OverRead {
         over: Override::By(Context {
             count: count.value,
             mark: mark.value,
         }),
-        cursor: c,
+        place: c,
     }
 }
 
-fn play_repeat(s: &[u8], from: Cursor, machine: ModalMachine) -> Played {
+fn play_repeat(s: &[u8], from: FilePlace, machine: ModalMachine) -> Played {
     let sequence = from.number(s);
-    let a = sequence.cursor;
+    let a = sequence.place;
     let over = read_override(s, a);
-    let c = over.cursor;
+    let c = over.place;
     if c.refusal != 0 {
         return Played {
             machine: machine,
-            cursor: c,
+            place: c,
         };
     }
     let by = over.over;
@@ -208,11 +208,11 @@ fn play_repeat(s: &[u8], from: Cursor, machine: ModalMachine) -> Played {
     end_line(left);
     Played {
         machine: left,
-        cursor: c,
+        place: c,
     }
 }
 
-fn play_reset(from: Cursor, machine: ModalMachine) -> Played {
+fn play_reset(from: FilePlace, machine: ModalMachine) -> Played {
     let r = machine.reset_mode();
     let left = r.machine;
     let answer = r.answer;
@@ -220,20 +220,20 @@ fn play_reset(from: Cursor, machine: ModalMachine) -> Played {
     end_line(left);
     Played {
         machine: left,
-        cursor: from,
+        place: from,
     }
 }
 
 // Mode and action.
-fn play_find(s: &[u8], from: Cursor, machine: ModalMachine) -> Played {
+fn play_find(s: &[u8], from: FilePlace, machine: ModalMachine) -> Played {
     let mode = from.number(s);
-    let a = mode.cursor;
+    let a = mode.place;
     let action = a.number(s);
-    let c = action.cursor;
+    let c = action.place;
     if c.refusal != 0 {
         return Played {
             machine: machine,
-            cursor: c,
+            place: c,
         };
     }
     let found = machine.find(mode.value, action.value);
@@ -241,26 +241,26 @@ fn play_find(s: &[u8], from: Cursor, machine: ModalMachine) -> Played {
     end_line(machine);
     Played {
         machine: machine,
-        cursor: c,
+        place: c,
     }
 }
 
-fn play_hint(from: Cursor, machine: ModalMachine) -> Played {
+fn play_hint(from: FilePlace, machine: ModalMachine) -> Played {
     print::free(machine.free_nodes());
     end_line(machine);
     Played {
         machine: machine,
-        cursor: from,
+        place: from,
     }
 }
 
-fn play_call(s: &[u8], from: Cursor, machine: ModalMachine) -> Played {
+fn play_call(s: &[u8], from: FilePlace, machine: ModalMachine) -> Played {
     let kind = from.number(s);
-    let c = kind.cursor;
+    let c = kind.place;
     if c.refusal != 0 {
         return Played {
             machine: machine,
-            cursor: c,
+            place: c,
         };
     }
     let which = kind.value;
@@ -276,7 +276,7 @@ fn play_call(s: &[u8], from: Cursor, machine: ModalMachine) -> Played {
         8 => play_hint(c, machine),
         _ => Played {
             machine: machine,
-            cursor: Cursor {
+            place: FilePlace {
                 at: c.at,
                 refusal: 9,
             },
@@ -285,7 +285,7 @@ fn play_call(s: &[u8], from: Cursor, machine: ModalMachine) -> Played {
 }
 
 // To the end of the input, or to the first call that is malformed.
-pub fn play_calls(s: &[u8], from: Cursor, start: ModalMachine) {
+pub fn play_calls(s: &[u8], from: FilePlace, start: ModalMachine) {
     let mut machine = start;
     let mut at = from;
     let mut left = s.len();
@@ -294,7 +294,7 @@ pub fn play_calls(s: &[u8], from: Cursor, start: ModalMachine) {
             return;
         }
         let r = play_call(s, at, machine);
-        let c = r.cursor;
+        let c = r.place;
         if c.refusal != 0 {
             print::refused_line(c.refusal);
             return;

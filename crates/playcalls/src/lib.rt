@@ -7,21 +7,22 @@ mod tables;
 
 use keygraph::answer::Answer;
 use keymachine::machine::ModalMachine;
-use mapfile::cursor::Cursor;
+use mapparts::place::FilePlace;
 
 // The bytes of an input at most.
 const MOST_INPUT: usize = 65536;
 
 fn play(s: &[u8]) {
-    let start = Cursor { at: 0, refusal: 0 };
+    let start = FilePlace { at: 0, refusal: 0 };
     let t = tables::read_tables(s, start);
-    let c = t.cursor;
+    let c = t.place;
     if c.refusal != 0 {
         print::refused_line(c.refusal);
         return;
     }
     let given = t.tables;
-    let opened = ModalMachine::open(given);
+    let fresh = ModalMachine::fresh();
+    let opened = fresh.open(given);
     let answer = opened.answer;
     let machine = opened.machine;
     match answer {

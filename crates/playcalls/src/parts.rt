@@ -7,106 +7,106 @@ use keygraph::path::EdgePath;
 use keygraph::path::EdgePathPart;
 use keygraph::step::Maybe;
 use keygraph::step::Step;
-use mapfile::cursor::Cursor;
+use mapparts::place::FilePlace;
 
 struct RepeatRead {
     repeat: EdgeRepeat,
     known: bool,
-    cursor: Cursor,
+    place: FilePlace,
 }
 
 struct EventRead {
     event: EdgeEvent,
     known: bool,
-    cursor: Cursor,
+    place: FilePlace,
 }
 
 struct PartRead {
     part: EdgePathPart,
     known: bool,
-    cursor: Cursor,
+    place: FilePlace,
 }
 
 pub struct PathRead {
     pub path: EdgePath,
     pub known: bool,
-    pub cursor: Cursor,
+    pub place: FilePlace,
 }
 
 pub struct StepRead {
     pub step: Step,
     pub known: bool,
-    pub cursor: Cursor,
+    pub place: FilePlace,
 }
 
 fn both(a: bool, b: bool) -> bool {
     if a { b } else { false }
 }
 
-fn read_repeat(s: &[u8], from: Cursor) -> RepeatRead {
+fn read_repeat(s: &[u8], from: FilePlace) -> RepeatRead {
     let k = from.number(s);
-    let c = k.cursor;
+    let c = k.place;
     if k.value == 0 {
         return RepeatRead {
             repeat: EdgeRepeat::Once,
             known: true,
-            cursor: c,
+            place: c,
         };
     }
     let n = c.number(s);
-    let d = n.cursor;
+    let d = n.place;
     if k.value == 1 {
         return RepeatRead {
             repeat: EdgeRepeat::Min(n.value),
             known: true,
-            cursor: d,
+            place: d,
         };
     }
     RepeatRead {
         repeat: EdgeRepeat::Max(n.value),
         known: k.value == 2,
-        cursor: d,
+        place: d,
     }
 }
 
-fn read_event(s: &[u8], from: Cursor) -> EventRead {
+fn read_event(s: &[u8], from: FilePlace) -> EventRead {
     let k = from.number(s);
-    let c = k.cursor;
+    let c = k.place;
     if k.value == 2 {
         return EventRead {
             event: EdgeEvent::Any,
             known: true,
-            cursor: c,
+            place: c,
         };
     }
     if k.value > 2 {
         return EventRead {
             event: EdgeEvent::Fallthrough,
             known: k.value == 3,
-            cursor: c,
+            place: c,
         };
     }
     let n = c.number(s);
-    let d = n.cursor;
+    let d = n.place;
     if k.value == 0 {
         return EventRead {
             event: EdgeEvent::Key(n.value),
             known: true,
-            cursor: d,
+            place: d,
         };
     }
     EventRead {
         event: EdgeEvent::Class(n.value),
         known: true,
-        cursor: d,
+        place: d,
     }
 }
 
-fn read_part(s: &[u8], from: Cursor) -> PartRead {
+fn read_part(s: &[u8], from: FilePlace) -> PartRead {
     let r = read_repeat(s, from);
-    let c = r.cursor;
+    let c = r.place;
     let e = read_event(s, c);
-    let d = e.cursor;
+    let d = e.place;
     let repeat = r.repeat;
     let event = e.event;
     PartRead {
@@ -115,30 +115,30 @@ fn read_part(s: &[u8], from: Cursor) -> PartRead {
             event: event,
         },
         known: both(r.known, e.known),
-        cursor: d,
+        place: d,
     }
 }
 
-// Of more than 32 parts the count is kept, and what does not fit is dropped.
-pub fn read_path(s: &[u8], from: Cursor) -> PathRead {
+// Of more parts than a path holds the count is kept, and what does not fit is dropped.
+pub fn read_path(s: &[u8], from: FilePlace) -> PathRead {
     let n = from.number(s);
     let count = n.value;
-    let mut at = n.cursor;
+    let mut at = n.place;
     let none = EdgePathPart {
         repeat: EdgeRepeat::Once,
         event: EdgeEvent::Any,
     };
-    let mut parts = [none; 32];
+    let mut parts = [none; EdgePath::PARTS as usize];
     let mut known = true;
     let mut i = 0u16;
     while i < count {
         let p = read_part(s, at);
         let part = p.part;
-        if i < 32 {
+        if i < EdgePath::PARTS {
             parts[i as usize] = part;
         }
         known = both(known, p.known);
-        at = p.cursor;
+        at = p.place;
         i = i + 1;
     }
     PathRead {
@@ -147,38 +147,38 @@ pub fn read_path(s: &[u8], from: Cursor) -> PathRead {
             count: count,
         },
         known: known,
-        cursor: at,
+        place: at,
     }
 }
 
 // 0, or the mark itself.
-fn read_mark(s: &[u8], from: Cursor) -> tables::MaybeRead {
+fn read_mark(s: &[u8], from: FilePlace) -> tables::MaybeRead {
     let n = from.number(s);
-    let c = n.cursor;
+    let c = n.place;
     let v = n.value;
     if v == 0 {
         return tables::MaybeRead {
             value: Maybe::Nothing,
-            cursor: c,
+            place: c,
         };
     }
     tables::MaybeRead {
         value: Maybe::Just(v),
-        cursor: c,
+        place: c,
     }
 }
 
-pub fn read_step(s: &[u8], from: Cursor) -> StepRead {
+pub fn read_step(s: &[u8], from: FilePlace) -> StepRead {
     let flag = from.number(s);
-    let a = flag.cursor;
+    let a = flag.place;
     let actions = tables::read_actions(s, a);
-    let b = actions.cursor;
+    let b = actions.place;
     let next = tables::read_maybe(s, b);
-    let c = next.cursor;
+    let c = next.place;
     let fall = tables::read_maybe(s, c);
-    let d = fall.cursor;
+    let d = fall.place;
     let mark = read_mark(s, d);
-    let e = mark.cursor;
+    let e = mark.place;
     let does = actions.actions;
     let items = does.items;
     let to = next.value;
@@ -194,6 +194,6 @@ pub fn read_step(s: &[u8], from: Cursor) -> StepRead {
             mark: sets,
         },
         known: flag.value < 2,
-        cursor: e,
+        place: e,
     }
 }

@@ -1,8 +1,8 @@
 // Lines of answers.
 use keygraph::answer::Answer;
 use keygraph::find::Found;
-use keymachine::machine::Pressed;
-use keymachine::machine::Waiting;
+use keymachine::live::Pressed;
+use keymachine::live::Waiting;
 use keymachine::pair::Pair;
 use libc::STDOUT_FILENO;
 

@@ -1,51 +1,52 @@
 // The three tables with any numbers. Of a table that is longer than its array the count is kept, and what does not fit is
 // dropped.
 use keygraph::step::Maybe;
+use keygraph::step::Step;
+use keygraph::tables::TableWords;
 use keymachine::rule::Rule;
-use keymachine::state::Sizes;
 use keymachine::tables::Actions;
 use keymachine::tables::ClassEntry;
 use keymachine::tables::ModeEntry;
 use keymachine::tables::Tables;
-use mapfile::cursor::Cursor;
+use mapparts::place::FilePlace;
 
 pub struct ActionsRead {
     pub actions: Actions,
-    pub cursor: Cursor,
+    pub place: FilePlace,
 }
 
 pub struct MaybeRead {
     pub value: Maybe,
-    pub cursor: Cursor,
+    pub place: FilePlace,
 }
 
 struct ModeRead {
     entry: ModeEntry,
-    cursor: Cursor,
+    place: FilePlace,
 }
 
 struct RuleRead {
     rule: Rule,
-    cursor: Cursor,
+    place: FilePlace,
 }
 
 pub struct TablesRead {
     pub tables: Tables,
-    pub cursor: Cursor,
+    pub place: FilePlace,
 }
 
-pub fn read_actions(s: &[u8], from: Cursor) -> ActionsRead {
+pub fn read_actions(s: &[u8], from: FilePlace) -> ActionsRead {
     let n = from.number(s);
     let count = n.value;
-    let mut at = n.cursor;
-    let mut items = [0u16; 4];
+    let mut at = n.place;
+    let mut items = [0u16; Step::ACTIONS as usize];
     let mut i = 0u16;
     while i < count {
         let a = at.number(s);
-        if i < 4 {
+        if i < Step::ACTIONS {
             items[i as usize] = a.value;
         }
-        at = a.cursor;
+        at = a.place;
         i = i + 1;
     }
     ActionsRead {
@@ -53,63 +54,63 @@ pub fn read_actions(s: &[u8], from: Cursor) -> ActionsRead {
             items: items,
             count: count,
         },
-        cursor: at,
+        place: at,
     }
 }
 
 // 0, or the number + 1.
-pub fn read_maybe(s: &[u8], from: Cursor) -> MaybeRead {
+pub fn read_maybe(s: &[u8], from: FilePlace) -> MaybeRead {
     let n = from.number(s);
-    let c = n.cursor;
+    let c = n.place;
     let v = n.value;
     if v == 0 {
         return MaybeRead {
             value: Maybe::Nothing,
-            cursor: c,
+            place: c,
         };
     }
     MaybeRead {
         value: Maybe::Just(v - 1),
-        cursor: c,
+        place: c,
     }
 }
 
-fn read_classes(s: &[u8], from: Cursor, t: Tables) -> TablesRead {
+fn read_classes(s: &[u8], from: FilePlace, t: Tables) -> TablesRead {
     let mut tables = t;
     let n = from.number(s);
     let count = n.value;
-    let mut at = n.cursor;
+    let mut at = n.place;
     let mut i = 0u16;
     while i < count {
         let class = at.number(s);
-        let a = class.cursor;
+        let a = class.place;
         let low = a.number(s);
-        let b = low.cursor;
+        let b = low.place;
         let high = b.number(s);
-        if i < 16 {
+        if i < TableWords::CLASSES {
             tables.classes[i as usize] = ClassEntry {
                 class: class.value,
                 low: low.value,
                 high: high.value,
             };
         }
-        at = high.cursor;
+        at = high.place;
         i = i + 1;
     }
     tables.sizes.classes = count;
     TablesRead {
         tables: tables,
-        cursor: at,
+        place: at,
     }
 }
 
-fn read_mode(s: &[u8], from: Cursor) -> ModeRead {
+fn read_mode(s: &[u8], from: FilePlace) -> ModeRead {
     let enter = read_actions(s, from);
-    let a = enter.cursor;
+    let a = enter.place;
     let unmapped = read_actions(s, a);
-    let b = unmapped.cursor;
+    let b = unmapped.place;
     let next = read_maybe(s, b);
-    let c = next.cursor;
+    let c = next.place;
     let first = enter.actions;
     let second = unmapped.actions;
     let to = next.value;
@@ -119,43 +120,43 @@ fn read_mode(s: &[u8], from: Cursor) -> ModeRead {
             unmapped: second,
             next: to,
         },
-        cursor: c,
+        place: c,
     }
 }
 
-fn read_modes(s: &[u8], from: Cursor, t: Tables) -> TablesRead {
+fn read_modes(s: &[u8], from: FilePlace, t: Tables) -> TablesRead {
     let mut tables = t;
     let n = from.number(s);
     let count = n.value;
-    let mut at = n.cursor;
+    let mut at = n.place;
     let mut i = 0u16;
     while i < count {
         let r = read_mode(s, at);
         let entry = r.entry;
-        if i < 16 {
+        if i < TableWords::MODES {
             tables.modes[i as usize] = entry;
         }
-        at = r.cursor;
+        at = r.place;
         i = i + 1;
     }
     tables.sizes.modes = count;
     TablesRead {
         tables: tables,
-        cursor: at,
+        place: at,
     }
 }
 
-fn read_rule(s: &[u8], from: Cursor) -> RuleRead {
+fn read_rule(s: &[u8], from: FilePlace) -> RuleRead {
     let mode = from.number(s);
-    let a = mode.cursor;
+    let a = mode.place;
     let low = a.number(s);
-    let b = low.cursor;
+    let b = low.place;
     let high = b.number(s);
-    let c = high.cursor;
+    let c = high.place;
     let sequence = c.number(s);
-    let d = sequence.cursor;
+    let d = sequence.place;
     let status = d.number(s);
-    let e = status.cursor;
+    let e = status.place;
     RuleRead {
         rule: Rule {
             mode: mode.value,
@@ -164,39 +165,39 @@ fn read_rule(s: &[u8], from: Cursor) -> RuleRead {
             sequence: sequence.value,
             status: status.value,
         },
-        cursor: e,
+        place: e,
     }
 }
 
-fn read_rules(s: &[u8], from: Cursor, t: Tables) -> TablesRead {
+fn read_rules(s: &[u8], from: FilePlace, t: Tables) -> TablesRead {
     let mut tables = t;
     let n = from.number(s);
     let count = n.value;
-    let mut at = n.cursor;
+    let mut at = n.place;
     let mut i = 0u16;
     while i < count {
         let r = read_rule(s, at);
         let rule = r.rule;
-        if i < 64 {
+        if i < TableWords::RULES {
             tables.rules[i as usize] = rule;
         }
-        at = r.cursor;
+        at = r.place;
         i = i + 1;
     }
     tables.sizes.rules = count;
     TablesRead {
         tables: tables,
-        cursor: at,
+        place: at,
     }
 }
 
-pub fn read_tables(s: &[u8], from: Cursor) -> TablesRead {
+pub fn read_tables(s: &[u8], from: FilePlace) -> TablesRead {
     let none = Tables::empty();
     let classes = read_classes(s, from, none);
-    let a = classes.cursor;
+    let a = classes.place;
     let first = classes.tables;
     let modes = read_modes(s, a, first);
-    let b = modes.cursor;
+    let b = modes.place;
     let second = modes.tables;
     read_rules(s, b, second)
 }
