@@ -5,15 +5,12 @@ use std::hint::black_box;
 use crate::timing::{clock, compare, Times};
 
 extern "C" {
-    fn bench_index(edges: *const u64, edge_len: usize, count: u16, links: *mut [u16; LINKS]);
+    fn bench_index(words: *const [u64; WORDS], count: u16, links: *mut [u16; LINKS]);
     fn bench_follow(
-        edges: *const u64,
-        edge_len: usize,
+        words: *const [u64; WORDS],
         count: u16,
         links: *const [u16; LINKS],
-        classes: *const u64,
-        class_len: usize,
-        entries: u16,
+        tables: *const [u64; TABLES],
         node: u16,
         key: u16,
     ) -> u16;
@@ -21,8 +18,15 @@ extern "C" {
     fn bench_add_by_value(n: u16) -> u16;
 }
 
+/// How many words a graph has, those of the edges in front.
+const WORDS: usize = 4_128;
+
 /// How many links an index has.
 const LINKS: usize = 2_304;
+
+/// How many words the tables have: the classes stand from the fourth on, and the first says how many there are.
+const TABLES: usize = 131;
+const CLASSES_AT: usize = 3;
 
 /// A key that no edge takes.
 const NOBODYS: u16 = 60_000;
@@ -40,43 +44,42 @@ fn class(class: u64, low: u64, high: u64) -> u64 {
     class + 65_536 * (low + 65_536 * high)
 }
 
-/// Edges with the index of them.
+/// Tables of these classes alone.
+fn tables(classes: &[u64]) -> [u64; TABLES] {
+    let mut words = [0; TABLES];
+    words[0] = classes.len() as u64;
+    words[CLASSES_AT..][..classes.len()].copy_from_slice(classes);
+    words
+}
+
+/// A graph's words, of which only the edges are filled, with the index of these.
 struct Edges {
-    words: Vec<u64>,
+    words: [u64; WORDS],
+    count: u16,
     links: [u16; LINKS],
 }
 
 impl Edges {
-    fn new(words: Vec<u64>) -> Self {
+    fn new(edges: &[u64]) -> Self {
+        let count = edges.len() as u16;
+        let mut words = [0; WORDS];
+        words[..edges.len()].copy_from_slice(edges);
         let mut links = [0; LINKS];
-        unsafe { bench_index(words.as_ptr(), words.len(), words.len() as u16, &mut links) };
-        Self { words, links }
+        unsafe { bench_index(&words, count, &mut links) };
+        Self { words, count, links }
     }
 
-    fn follow_once(&self, classes: &[u64], key: u16) -> u16 {
-        let (count, entries) = (self.words.len() as u16, classes.len() as u16);
-        unsafe {
-            bench_follow(
-                self.words.as_ptr(),
-                self.words.len(),
-                count,
-                &self.links,
-                classes.as_ptr(),
-                classes.len(),
-                entries,
-                black_box(0),
-                black_box(key),
-            )
-        }
+    fn follow_once(&self, tables: &[u64; TABLES], key: u16) -> u16 {
+        unsafe { bench_follow(&self.words, self.count, &self.links, tables, black_box(0), black_box(key)) }
     }
 
     /// Nanoseconds of a following from node 0.
-    fn follow(&self, classes: &[u64], key: u16) -> Times {
+    fn follow(&self, tables: &[u64; TABLES], key: u16) -> Times {
         const CALLS: usize = 20_000;
         let [times] = compare([&mut || {
             clock(|| {
                 for _ in 0..CALLS {
-                    black_box(self.follow_once(classes, key));
+                    black_box(self.follow_once(tables, key));
                 }
             })
         }]);
@@ -94,19 +97,20 @@ pub struct Followings {
 
 pub fn followings(n: usize) -> Followings {
     let words: Vec<u64> = (0..n as u64).map(|i| edge(i % 40, i, 16 + i % 1000)).collect();
-    let with_class = Edges::new([&[edge(0, 65_536, 77)], &words[..]].concat());
-    let edges = Edges::new(words);
+    let with_class = Edges::new(&[&[edge(0, 65_536, 77)], &words[1..]].concat());
+    let edges = Edges::new(&words);
     let last = ((n - 1) / 40 * 40) as u16;
-    let digits = [class(0, NOBODYS as u64 - 1, NOBODYS as u64 + 1)];
-    assert_eq!(edges.follow_once(&[], last), 16 + last % 1000);
-    assert_eq!(edges.follow_once(&[], NOBODYS), NOWHERE);
+    let none = tables(&[]);
+    let digits = tables(&[class(0, NOBODYS as u64 - 1, NOBODYS as u64 + 1)]);
+    assert_eq!(edges.follow_once(&none, last), 16 + last % 1000);
+    assert_eq!(edges.follow_once(&none, NOBODYS), NOWHERE);
     assert_eq!(edges.follow_once(&digits, NOBODYS), NOWHERE);
     // the class's word means what is meant by it: with an edge for the class, the key goes along it
     assert_eq!(with_class.follow_once(&digits, NOBODYS), 77);
     Followings {
         edges: n,
-        hit: edges.follow(&[], last),
-        miss: edges.follow(&[], NOBODYS),
+        hit: edges.follow(&none, last),
+        miss: edges.follow(&none, NOBODYS),
         class: edges.follow(&digits, NOBODYS),
     }
 }

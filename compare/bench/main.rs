@@ -344,8 +344,9 @@ fn stack_rows(works: &[Work]) {
     row(
         "map, prefix, repeat, reset, find and hint by value, with the same",
         stack::peak(|| {
-            let (node, _) = ours::other_calls(&works[0].bytes);
+            let (node, _, pairs) = ours::other_calls(&works[0].bytes);
             assert!((16..1040).contains(&node), "find gives no node: {node}");
+            assert_eq!(pairs, 1, "a sequence remembers {pairs} pairs of one");
         }),
     );
     row("adding to a graph by value", stack::peak(|| graph::add_by_value(510)));

@@ -7,7 +7,7 @@ use crate::sum::Sum;
 extern "C" {
     fn bench_keys_in_place(map: *const u8, map_count: usize, keys: *const u16, keys_count: usize, budget: u16) -> u64;
     fn bench_keys_by_value(map: *const u8, map_count: usize, keys: *const u16, keys_count: usize, budget: u16) -> u64;
-    fn bench_other_calls(map: *const u8, map_count: usize) -> u32;
+    fn bench_other_calls(map: *const u8, map_count: usize) -> u64;
     fn bench_opens(times: u16) -> u64;
     fn bench_mappings(map: *const u8, map_count: usize, times: u16) -> u64;
     fn bench_prefixes(map: *const u8, map_count: usize, times: u16) -> u64;
@@ -42,11 +42,11 @@ pub fn by_value(map: &[u8], keys: &[u16]) -> Sum {
     Sum::of_word(unsafe { bench_keys_by_value(map.as_ptr(), map.len(), keys.as_ptr(), keys.len(), BUDGET) })
 }
 
-/// Map, prefix, repeat, reset, find and hint by value, once each: the node of the mapping that was added, and the nodes that
-/// are left.
-pub fn other_calls(map: &[u8]) -> (u16, u16) {
+/// Map, prefix, repeat, reset, find and hint by value, once each, and a sequence by value that one pair is pushed to: the node
+/// of the mapping that was added, the nodes that are left, and the pairs that the sequence remembers.
+pub fn other_calls(map: &[u8]) -> (u16, u16, u16) {
     let answer = unsafe { bench_other_calls(map.as_ptr(), map.len()) };
-    (answer as u16, (answer >> 16) as u16)
+    (answer as u16, (answer >> 16) as u16, (answer >> 32) as u16)
 }
 
 /// A call by value, so many times, on the machine of a map. The answer depends on what each call gave.

@@ -1,37 +1,26 @@
 // Calls on a machine by value over the map of a map file.
 use keygraph::find::Found;
-use keygraph::graph::Graph;
+use keygraph::number;
 use keymachine::context::Context;
 use keymachine::context::Override;
+use keymachine::live::Waiting;
+use keymachine::machine::Map;
 use keymachine::machine::ModalMachine;
-use keymachine::machine::Waiting;
-use keymachine::tables::TableWords;
+use keymachine::pair::Pair;
 use keymachine::tables::Tables;
+use keymachine::tracker::SequenceTracker;
+use keymachine::tracker::Status;
 use mapfile::map;
 
 // The machine of a map file.
 fn machine_of(bytes: &[u8]) -> ModalMachine {
     let r = map::read_map(bytes);
-    let words = r.words;
-    let counts = r.counts;
-    let classes = r.classes;
-    let modes = r.modes;
-    let rules = r.rules;
-    let sizes = r.sizes;
-    let graph = Graph {
-        words: words,
-        counts: counts,
-    };
-    let tables = TableWords {
-        classes: classes,
-        modes: modes,
-        rules: rules,
-        sizes: sizes,
-    };
-    let mut m = ModalMachine::fresh();
-    m.graph = graph;
-    m.tables = tables;
-    m
+    let graph = r.graph;
+    let tables = r.tables;
+    ModalMachine::over(Map {
+        graph: graph,
+        tables: tables,
+    })
 }
 
 // By value: a call for each key, and pops up to the one that gives nothing.
@@ -44,7 +33,7 @@ pub extern "C" fn bench_keys_by_value<'a>(bytes: &'a [u8], keys: &'a [u16], budg
         let k = m.input_key(keys[i], budget);
         let pressed = k.machine;
         m = pressed;
-        let mut left = 257u16;
+        let mut left = Pair::QUEUE + 1;
         while 0 < left {
             let p = m.pop();
             let popped = p.machine;
@@ -72,10 +61,19 @@ fn node_of(found: Found) -> u16 {
     }
 }
 
-// Every other call by value, once, for the stack that they use. The answer is the node of a mapping that was added, and the
-// nodes that are left above it.
+// How many pairs a sequence by value remembers, of one that was pushed to a fresh one.
+fn remembered() -> u16 {
+    let fresh = SequenceTracker::fresh();
+    let pushed = fresh.push(Status::Track, Pair::default());
+    let tracker = pushed.tracker;
+    let fetched = tracker.fetch(Override::By(Context { count: 5, mark: 6 }));
+    fetched.answer
+}
+
+// Every other call by value, once, for the stack that they use. The answer is the node of a mapping that was added, the
+// nodes that are left above it, and the pairs of a sequence above those.
 #[no_mangle]
-pub extern "C" fn bench_other_calls(bytes: &[u8]) -> u32 {
+pub extern "C" fn bench_other_calls(bytes: &[u8]) -> u64 {
     let m = machine_of(bytes);
     let mapped = m.add_mapping(1, crate::two_keys(1, 2), crate::one_action(3));
     let a = mapped.machine;
@@ -87,7 +85,8 @@ pub extern "C" fn bench_other_calls(bytes: &[u8]) -> u32 {
     let d = reset.machine;
     let found = d.find(1, 3);
     let left = d.free_nodes();
-    (left as u32) * 65536 + (node_of(found) as u32)
+    let pairs = remembered();
+    ((pairs as u64) * 65536 + (left as u64)) * 65536 + (node_of(found) as u64)
 }
 
 // A word more.
@@ -106,7 +105,7 @@ pub extern "C" fn bench_mappings(bytes: &[u8], times: u16) -> u64 {
         let r = m.add_mapping(1, crate::two_keys(1, 2), crate::one_action(i));
         let next = r.machine;
         m = next;
-        sum = stir(sum, m.graph.counts.nodes);
+        sum = stir(sum, m.map.graph.counts.nodes);
         i = i + 1;
     }
     sum
@@ -122,7 +121,7 @@ pub extern "C" fn bench_prefixes(bytes: &[u8], times: u16) -> u64 {
         let r = m.add_prefix(1, crate::two_keys(1, 2), false, crate::one_action(i));
         let next = r.machine;
         m = next;
-        sum = stir(sum, m.graph.counts.nodes);
+        sum = stir(sum, m.map.graph.counts.nodes);
         i = i + 1;
     }
     sum
@@ -135,11 +134,11 @@ pub extern "C" fn bench_inputs(bytes: &[u8], times: u16) -> u64 {
     let mut sum = 0u64;
     let mut i = 0u16;
     while i < times {
-        m.state.queued = 0;
+        m.live.state.queued = 0;
         let r = m.input_key(i, 1000);
         let next = r.machine;
         m = next;
-        sum = stir(sum, m.state.queued);
+        sum = stir(sum, m.live.state.queued);
         i = i + 1;
     }
     sum
@@ -149,15 +148,17 @@ pub extern "C" fn bench_inputs(bytes: &[u8], times: u16) -> u64 {
 #[no_mangle]
 pub extern "C" fn bench_repeats(bytes: &[u8], times: u16) -> u64 {
     let mut m = machine_of(bytes);
-    m.sequences[0] = 128;
+    let mut live = m.live;
+    live.sequences[0] = 128;
+    m.live = live;
     let mut sum = 0u64;
     let mut i = 0u16;
     while i < times {
-        m.state.queued = 0;
+        m.live.state.queued = 0;
         let r = m.repeat(0, Override::By(Context { count: i, mark: 6 }));
         let next = r.machine;
         m = next;
-        sum = stir(sum, m.state.queued);
+        sum = stir(sum, m.live.state.queued);
         i = i + 1;
     }
     sum
@@ -173,7 +174,7 @@ pub extern "C" fn bench_resets(bytes: &[u8], times: u16) -> u64 {
         let r = m.reset_mode();
         let next = r.machine;
         m = next;
-        sum = stir(sum, m.state.queued);
+        sum = stir(sum, m.live.state.queued);
         i = i + 1;
     }
     sum
@@ -199,14 +200,17 @@ pub extern "C" fn bench_opens(times: u16) -> u64 {
     let mut tables = Tables::empty();
     tables.sizes.modes = 16;
     tables.sizes.rules = 64;
+    let mut m = ModalMachine::fresh();
     let mut sum = 0u64;
     let mut i = 0u16;
     while i < times {
         let classes = i % 17;
         tables.sizes.classes = classes;
-        let r = ModalMachine::open(tables);
-        let m = r.machine;
-        sum = stir(sum, m.tables.sizes.classes);
+        let r = m.open(tables);
+        let next = r.machine;
+        m = next;
+        let kept = m.map.tables;
+        sum = stir(sum, number::low(kept.words[0]));
         i = i + 1;
     }
     sum

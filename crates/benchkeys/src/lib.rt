@@ -4,11 +4,14 @@
 // An answer has how many pairs there were above 32 bits that depend on every number of every pair and on their order, so that
 // nobody times other work than the Rust's.
 use keygraph::graph::Counts;
+use keygraph::graph::Graph;
+use keygraph::index::Index;
+use keygraph::layout;
+use keygraph::tables::TableWords;
 use keyloop::key;
-use keypairs::context::Context;
 use keypairs::pair::Pair;
-use keypairs::state::Sizes;
 use keypairs::state::State;
+use keypairs::tracker::SequenceTracker;
 use mapfile::map;
 ghost use mathlib.Core.Path.{_≡_};
 ghost use lib.ListN.{length};
@@ -37,61 +40,45 @@ fn mix_queue(queue: &[u64], queued: u16, start: u64) -> u64 {
     sum
 }
 
-// In place: the key loop on lent arrays, as the run has it.
+// In place: the key loop on lent arrays, as the run has it. A key that is refused ends it, with the pairs before it.
 fn keys_over<'a>(
     keys: &[u16],
-    words: &'a [u64; 4128],
+    words: &'a [u64; Graph::WORDS],
     counts: Counts,
-    links: &'a [u16; 2304],
-    classes: &'a [u64],
-    modes: &'a [u64],
-    rules: &'a [u64],
-    sizes: Sizes,
+    links: &'a [u16; Index::LINKS],
+    tables: &'a [u64; TableWords::WORDS],
     budget: u16,
 ) -> u64
-    requires { ⌜ (length (now words) ≡ 4128) × (length (now links) ≡ 2304) ⌝ }
+    requires { ⌜ (length (now words) ≡ 4128) × (length (now links) ≡ 2304) × (length (now tables) ≡ 131) ⌝ }
 {
-    let mut queue = [0u64; 256];
-    let mut sequences = [0u64; 520];
-    let mut trail = [0u16; 64];
-    let mut state = State {
-        place: 0,
-        mode: 0,
-        context: Context { count: 0, mark: 0 },
-        queued: 0,
-    };
-    let mut trailed = 0u16;
+    let mut queue = [0u64; Pair::QUEUE as usize];
+    let mut sequences = [0u64; SequenceTracker::ALL];
+    let mut trail = [0u16; State::TRAIL as usize];
+    let mut state = State::fresh();
     let mut sum = 0u64;
     let mut i = 0usize;
     while i < keys.len() {
         let pressed = keys[i];
         i = i + 1;
-        let k = key::input_key(
+        let k = key::input_key_or_scratch(
             words,
             counts,
             links,
-            classes,
-            modes,
-            rules,
-            sizes,
+            tables,
             &mut queue,
             &mut sequences,
             &mut trail,
             state,
-            trailed,
             pressed,
             budget,
         );
-        let s = k.state;
+        if k.refusal != 0 {
+            return sum;
+        }
+        let mut s = k.state;
         sum = mix_queue(&queue, s.queued, sum);
-        let context = s.context;
-        state = State {
-            place: s.place,
-            mode: s.mode,
-            context: context,
-            queued: 0,
-        };
-        trailed = k.trailed;
+        s.queued = 0;
+        state = s;
     }
     sum
 }
@@ -99,18 +86,14 @@ fn keys_over<'a>(
 #[no_mangle]
 pub extern "C" fn bench_keys_in_place<'a>(bytes: &'a [u8], keys: &'a [u16], budget: u16) -> u64 {
     let m = map::read_map(bytes);
-    let counts = m.counts;
-    let sizes = m.sizes;
-    let index = key::index_of(&m.words, counts);
+    let counts = m.graph.counts;
+    let index = layout::index_of(&m.graph.words, counts.edges);
     keys_over(
         keys,
-        &m.words,
+        &m.graph.words,
         counts,
         &index.links,
-        &m.classes,
-        &m.modes,
-        &m.rules,
-        sizes,
+        &m.tables.words,
         budget,
     )
 }

@@ -24,8 +24,17 @@ two-keys-requires c κs = search needs
 one-action-requires : tie.Need-one-action-requires Inv-loop μ-loop
 one-action-requires c κs = search needs
 
-add-mapping-in-requires : tie.Need-add-mapping-in-requires Inv-loop μ-loop
-add-mapping-in-requires c κs = search needs
+add-mapping-or-scratch-requires : tie.Need-add-mapping-or-scratch-requires Inv-loop μ-loop
+add-mapping-or-scratch-requires c κs = search needs
+
+enum-told : tie.Need-enum-told Inv-loop μ-loop
+enum-told c = search needs
+
+returns : tie.Need-returns Inv-loop μ-loop
+returns c = search needs
+
+enum-told-2 : tie.Need-enum-told-2 Inv-loop μ-loop
+enum-told-2 c = search needs
 
 add-i : tie.Need-add-i Inv-loop μ-loop
 add-i c = search needs
@@ -36,8 +45,8 @@ loop-less c = search needs
 loop-again : tie.Need-loop-again Inv-loop μ-loop
 loop-again c = search needs
 
-returns : tie.Need-returns Inv-loop μ-loop
-returns c = search needs
+returns-2 : tie.Need-returns-2 Inv-loop μ-loop
+returns-2 c = search needs
 
 pub bench-add-in-place-spec : {M : Type 1} → statement M
 bench-add-in-place-spec =
@@ -49,8 +58,11 @@ bench-add-in-place-spec =
     loop-holds
     two-keys-requires
     one-action-requires
-    add-mapping-in-requires
+    add-mapping-or-scratch-requires
+    enum-told
+    returns
+    enum-told-2
     add-i
     loop-less
     loop-again
-    returns)
+    returns-2)

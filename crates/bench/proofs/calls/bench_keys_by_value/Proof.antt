@@ -33,6 +33,9 @@ shared-slice-read-input-key c = search needs
 input-key-requires : tie.Need-input-key-requires Inv-loop2 μ-loop2 Inv-loop μ-loop
 input-key-requires c κs = search needs
 
+add-left : tie.Need-add-left Inv-loop2 μ-loop2 Inv-loop μ-loop
+add-left c = search needs
+
 loop2-holds : tie.Need-loop2-holds Inv-loop2 μ-loop2 Inv-loop μ-loop
 loop2-holds c = search needs
 
@@ -82,6 +85,7 @@ bench-keys-by-value-spec =
     mul-input-key
     shared-slice-read-input-key
     input-key-requires
+    add-left
     loop2-holds
     pop-requires
     enum-known-answer

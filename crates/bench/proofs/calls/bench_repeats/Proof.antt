@@ -13,8 +13,8 @@ abbrev μ-loop : tie.MeasureT-loop
 machine-of-requires : tie.Need-machine-of-requires Inv-loop μ-loop
 machine-of-requires c κs = search needs
 
-element-write-m : tie.Need-element-write-m Inv-loop μ-loop
-element-write-m c = search needs
+element-write-live : tie.Need-element-write-live Inv-loop μ-loop
+element-write-live c = search needs
 
 loop-holds : tie.Need-loop-holds Inv-loop μ-loop
 loop-holds c = search needs
@@ -44,7 +44,7 @@ bench-repeats-spec =
     Inv-loop
     μ-loop
     machine-of-requires
-    element-write-m
+    element-write-live
     loop-holds
     repeat-requires
     stir-requires
