@@ -22,12 +22,12 @@ over-requires c κs = search needs
 returns : tie.Need-returns
 unfolding fresh
 returns c = let a = c .before .before .before .before .before .args in let p = c .before .before .before .before .pack in let t = wholeTables (a .tables) in let w = tablesIn (p .result .words .words) in
-    opened (machineOf (a .self)) (machineOf (c .over .result)) t (p .result .valid) (packed-valid w t (p .result .valid) (tablesValid t) (p .ensures)) (c .before .before .before .if1 .taken)
+    opened _ (machineOf (c .over .result)) t (p .result .valid) (packed-valid w t (p .result .valid) (tablesValid t) (p .ensures)) (c .before .before .before .if1 .taken)
     (c .over .ensures ∙ rw (c .before .before .fresh .ensures, packed-words w t (p .result .valid) (tablesValid t) (p .ensures) (c .before .before .before .if1 .taken)))
 
 returns-2 : tie.Need-returns-2
 returns-2 c = let a = c .before .before .args in let p = c .before .pack in let t = wholeTables (a .tables) in
-    not-opened (machineOf (a .self)) (machineOf (a .self)) t (p .result .valid) (packed-valid (tablesIn (p .result .words .words)) t (p .result .valid) (tablesValid t) (p .ensures)) (c .if1 .left) refl
+    not-opened _ (machineOf (a .self)) t (p .result .valid) (packed-valid (tablesIn (p .result .words .words)) t (p .result .valid) (tablesValid t) (p .ensures)) (c .if1 .left) refl
 
 pub open-spec : {M : Type 1} → statement M
 open-spec = tie.close (tie.spec pack-requires fresh-requires over-requires returns returns-2)
