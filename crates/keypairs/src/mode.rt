@@ -89,13 +89,19 @@ pub fn goto_mode_or_scratch(
     let taken = t.answer;
     let zeros = t.context;
     let r = queue::push_all(tables, queue, sequences, s.queued, entered, enter, taken);
+    if r.refusal != 0 {
+        return GotoResult {
+            refusal: r.refusal,
+            state: s,
+        };
+    }
     let mut to = s;
     to.place = node::root(mode);
     to.mode = mode;
     to.context = zeros;
     to.queued = r.queued;
     GotoResult {
-        refusal: r.refusal,
+        refusal: 0,
         state: to,
     }
 }
