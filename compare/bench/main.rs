@@ -342,7 +342,7 @@ fn stack_rows(works: &[Work]) {
         }),
     );
     row(
-        "map, prefix, repeat, reset, find and hint by value, with the same",
+        "map, prefix, repeat, reset, find and hint by value, and the tracker, with the same",
         stack::peak(|| {
             let (node, _, pairs) = ours::other_calls(&works[0].bytes);
             assert!((16..1040).contains(&node), "find gives no node: {node}");
