@@ -178,7 +178,7 @@ fn kind_rows(works: &[Work]) {
 
 /// Microseconds a call, of keys and of the pops after them.
 fn call_rows(works: &[Work]) {
-    println!("| bindings | by value, µs a call | at most 10 µs | lent, µs a call | at most 10 µs |");
+    println!("| bindings | by value, µs a call | at most 10 µs | lent, µs a call | at most 0.8 µs |");
     println!("|---|---|---|---|---|");
     for (bindings, work) in BINDINGS.iter().zip(works) {
         let keys = &work.keys[..VALUE_KEYS];
@@ -235,7 +235,7 @@ fn lent_cells(work: &Work, calls: usize) -> (String, &'static str) {
         })
     }]);
     let lent = lent.each(calls);
-    (us(lent), target(lent.best <= 10e3))
+    (hundredths(lent), target(lent.best <= 800.0))
 }
 
 /// Milliseconds to read a map: a run without keys.

@@ -15,7 +15,6 @@ mod repeat;
 pub use keyparts::answer;
 pub use keyparts::class;
 pub use keyparts::copy;
-pub use keyparts::edge;
 pub use keyparts::event;
 pub use keyparts::find;
 pub use keyparts::follow;

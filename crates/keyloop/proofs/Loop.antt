@@ -14,7 +14,8 @@ use borrow.Author.Tests.{lt-ltb, le-ltb, le-leb, lt-leb}
 use Rattle.rules.specs.Basics.{if_then_else_, Result, accept, refuse, _>>=_, unless}
 use Rattle.rules.specs.Values.{Event, Step}
 use Rattle.rules.specs.KeyLoop.{Shared, withTrail, State, at, clearTrail, KeyResult, Navigator, Turn, InputResult, Again, ClearTrail, Consumed, NeedMore, Unmapped, RunStep, RetryAfter, runHook, unmapped, step, after, round, proceed, loop, inputKey}
-use Rattle.keyloop.proofs.Stack.{weight, weight-cons, weight-nil, weight-append, weight-drop, length-weight, drop-put}
+use Rattle.rules.proofs.Weights.{weight-cons, weight-nil, weight-append, weight-drop, length-weight}
+use Rattle.keyloop.proofs.Stack.{splits, weight, drop-put}
 
 abbrev pub stopped : ℕ → ℕ → KeyResult ℕ
 stopped r n = record { rounds = r; result = refuse n }
@@ -68,7 +69,7 @@ held-start nav B first m z e w =
       long = length-set z 129 first ∙ e;
       low = omega arith;
       within = zero-le;
-      light = rw q (omega (arith, weight-cons first [], weight-nil));
+      light = rw q (omega (arith, weight-cons splits first [], weight-nil splits));
       same = rw (q, sub-zero);
     }
 
@@ -96,7 +97,7 @@ module _ {nav : Navigator ℕ} {B : ℕ} {K : KeyResult ℕ} {stack : List ℕ} 
   module _ {k : ℕ} (h : Held nav B K stack top r (k ∷ drop top stack) m) where
     -- there is room on the stack for the trail, and for the rest of a key that decomposes
     pub held-room : 1 + min 1 (k / 32768) + (130 - top) + length (m .shared .trail) ≤ 130
-    held-room = omega (arith, h .light, h .long, weight-cons k (drop top stack), length-weight (drop top stack), length-weight (m .shared .trail), length-drop top stack)
+    held-room = omega (arith, h .light, h .long, weight-cons splits k (drop top stack), length-weight splits (drop top stack), length-weight splits (m .shared .trail), length-drop top stack)
 
     pub held-out : B ≤ r → K ≡ stopped r 8
     held-out l = h .same ∙ loop-out nav B r k (drop top stack) m l
@@ -115,7 +116,7 @@ module _ {nav : Navigator ℕ} {B : ℕ} {K : KeyResult ℕ} {stack : List ℕ} 
             long = n;
             low = o;
             within = omega arith;
-            light = omega (arith, h .light, weight-cons k (drop top stack));
+            light = omega (arith, h .light, weight-cons splits k (drop top stack));
             same = h .same ∙ loop-go nav B r k (drop top stack) m ls u l (round-is ∙ e);
           }
 
@@ -125,19 +126,19 @@ module _ {nav : Navigator ℕ} {B : ℕ} {K : KeyResult ℕ} {stack : List ℕ} 
     module _ (l : r < B) {m' : State ℕ} where
       pub met-again : Round nav k m m' Again → Held nav B K stack top (r + 1) (k ∷ drop top stack) m'
       unfolding after
-      met-again w = go l w refl (h .long) (h .low) (omega (arith, weight-cons k (drop top stack)))
+      met-again w = go l w refl (h .long) (h .low) (omega (arith, weight-cons splits k (drop top stack)))
 
       pub met-clear : Round nav k m m' ClearTrail → Held nav B K stack top (r + 1) (k ∷ drop top stack) (clearTrail m')
       unfolding after
-      met-clear w = go l w refl (h .long) (h .low) (omega (arith, weight-cons k (drop top stack), weight-nil))
+      met-clear w = go l w refl (h .long) (h .low) (omega (arith, weight-cons splits k (drop top stack), weight-nil splits))
 
       pub met-consumed : Round nav k m m' Consumed → Held nav B K stack top (r + 1) (drop top stack) (clearTrail m')
       unfolding after
-      met-consumed w = go l w refl (h .long) (h .low) (omega (arith, weight-nil))
+      met-consumed w = go l w refl (h .long) (h .low) (omega (arith, weight-nil splits))
 
       pub met-more : Round nav k m m' NeedMore → length (m' .shared .trail) < 64 → Held nav B K stack top (r + 1) (drop top stack) (at (m' .place) (withTrail (m' .shared .trail ++ (k ∷ [])) (m' .shared)))
       unfolding after
-      met-more w n = go l w (rw (lt-ltb (length (m' .shared .trail)) 64 n)) (h .long) (h .low) (omega (arith, weight-append (m' .shared .trail) (k ∷ []), weight-cons k [], weight-nil))
+      met-more w n = go l w (rw (lt-ltb (length (m' .shared .trail)) 64 n)) (h .long) (h .low) (omega (arith, weight-append splits (m' .shared .trail) (k ∷ []), weight-cons splits k [], weight-nil splits))
 
       pub met-full : Round nav k m m' NeedMore → 64 ≤ length (m' .shared .trail) → K ≡ stopped (r + 1) 7
       unfolding after
@@ -147,7 +148,7 @@ module _ {nav : Navigator ℕ} {B : ℕ} {K : KeyResult ℕ} {stack : List ℕ} 
           → Held nav B K stack' top' (r + 1) (27 ∷ drop top' stack') m'
       unfolding after
       met-big w n s stack' top' a b d =
-          let v : weight (27 ∷ drop top' stack') ≡ 1 + min 1 (27 / 32768) + (1 + min 1 ((k - 32768) / 32768) + weight (drop top stack)) = weight-cons 27 (drop top' stack') ∙ ap (λ (i : ℕ). 1 + min 1 (27 / 32768) + i) (ap weight d ∙ weight-cons (k - 32768) (drop top stack)) in
+          let v : weight (27 ∷ drop top' stack') ≡ 1 + min 1 (27 / 32768) + (1 + min 1 ((k - 32768) / 32768) + weight (drop top stack)) = weight-cons splits 27 (drop top' stack') ∙ ap (λ (i : ℕ). 1 + min 1 (27 / 32768) + i) (ap weight d ∙ weight-cons splits (k - 32768) (drop top stack)) in
           go l w (rw (d, le-leb 32768 k n)) a b (omega arith)
 
       module _ (w : Round nav k m m' Unmapped) (n : k < 32768) where
@@ -155,9 +156,9 @@ module _ {nav : Navigator ℕ} {B : ℕ} {K : KeyResult ℕ} {stack : List ℕ} 
             → drop top' stack' ≡ drop 1 (m' .shared .trail ++ (k ∷ [])) ++ drop top stack → Held nav B K stack' top' (r + 1) (drop top' stack') u
         unfolding after
         met-unmapped u eu z stack' top' a b d =
-            let y : weight (drop top' stack') ≡ weight (drop 1 (m' .shared .trail ++ (k ∷ []))) + weight (drop top stack) = ap weight d ∙ weight-append (drop 1 (m' .shared .trail ++ (k ∷ []))) (drop top stack) in
-            let v : weight (u .shared .trail) ≡ 0 = ap weight z ∙ weight-nil in
-            go l w (rw (d, lt-leb 32768 k n, ← eu)) a b (omega (arith, weight-drop (m' .shared .trail ++ (k ∷ [])), weight-append (m' .shared .trail) (k ∷ []), weight-cons k [], weight-nil))
+            let y : weight (drop top' stack') ≡ weight (drop 1 (m' .shared .trail ++ (k ∷ []))) + weight (drop top stack) = ap weight d ∙ weight-append splits (drop 1 (m' .shared .trail ++ (k ∷ []))) (drop top stack) in
+            let v : weight (u .shared .trail) ≡ 0 = ap weight z ∙ weight-nil splits in
+            go l w (rw (d, lt-leb 32768 k n, ← eu)) a b (omega (arith, weight-drop splits (m' .shared .trail ++ (k ∷ [])), weight-append splits (m' .shared .trail) (k ∷ []), weight-cons splits k [], weight-nil splits))
 
         pub met-unmapped-refused : (q : ℕ) → refuse q ≡ unmapped nav (clearTrail m') → K ≡ stopped (r + 1) q
         unfolding after
@@ -166,7 +167,7 @@ module _ {nav : Navigator ℕ} {B : ℕ} {K : KeyResult ℕ} {stack : List ℕ} 
       module _ {s : Step} (w : Round nav k m m' (RunStep s)) where
         pub met-step : (u : State ℕ) → accept u ≡ step nav s (clearTrail m') → u .shared .trail ≡ [] → Held nav B K stack top (r + 1) (drop top stack) u
         unfolding after
-        met-step u eu z = let v : weight (u .shared .trail) ≡ 0 = ap weight z ∙ weight-nil in go l w (rw (← eu)) (h .long) (h .low) (omega arith)
+        met-step u eu z = let v : weight (u .shared .trail) ≡ 0 = ap weight z ∙ weight-nil splits in go l w (rw (← eu)) (h .long) (h .low) (omega arith)
 
         pub met-step-refused : (q : ℕ) → refuse q ≡ step nav s (clearTrail m') → K ≡ stopped (r + 1) q
         unfolding after
@@ -175,7 +176,7 @@ module _ {nav : Navigator ℕ} {B : ℕ} {K : KeyResult ℕ} {stack : List ℕ} 
       module _ {s : Step} (w : Round nav k m m' (RetryAfter s)) where
         pub met-retry : (u : State ℕ) → accept u ≡ step nav s (clearTrail m') → u .shared .trail ≡ [] → Held nav B K stack top (r + 1) (k ∷ drop top stack) u
         unfolding after
-        met-retry u eu z = let v : weight (u .shared .trail) ≡ 0 = ap weight z ∙ weight-nil in go l w (rw (← eu)) (h .long) (h .low) (omega (arith, weight-cons k (drop top stack)))
+        met-retry u eu z = let v : weight (u .shared .trail) ≡ 0 = ap weight z ∙ weight-nil splits in go l w (rw (← eu)) (h .long) (h .low) (omega (arith, weight-cons splits k (drop top stack)))
 
         pub met-retry-refused : (q : ℕ) → refuse q ≡ step nav s (clearTrail m') → K ≡ stopped (r + 1) q
         unfolding after

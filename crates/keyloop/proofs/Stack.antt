@@ -7,6 +7,7 @@ use native.Mathlib.Omega.{arith}
 use native.Mathlib.Nat.{zero-add}
 use native.Mathlib.Numerals.{add-one}
 use lib.ListN.{length, take, drop, set, getD, length-take, length-drop, length-append, length-set, drop-of-length-le}
+use Rattle.rules.proofs.Weights.{weightBy, weight-most, each-key}
 use Rattle.keyloop.proofs.Lists.{drop-take}
 use lib.Seq.{getD-drop, drop-cons, paste, paste-suc, length-paste, length-paste-head, set-at, drop-at, length-take-le, take-nil, drop-set-lt, getD-set-same}
 
@@ -48,35 +49,13 @@ drop-put l at x h g =
     rw (drop-cons (set l (at - 1) x) (at - 1) 0 j, getD-set-same l (at - 1) x 0 i, s, drop-set-lt at l (at - 1) x k)
 
 -- ---- weights: a key that decomposes counts for two
-unfoldable pub weight : List ℕ → ℕ
-weight [] = 0
-weight (k ∷ ks) = 1 + min 1 (k / 32768) + weight ks
 
-pub weight-cons : (k : ℕ) (ks : List ℕ) → weight (k ∷ ks) ≡ 1 + min 1 (k / 32768) + weight ks
-unfolding weight
-weight-cons k ks = refl
+-- the words of an array are of 16 bits, so once is enough
+abbrev pub splits : ℕ → ℕ
+splits k = min 1 (k / 32768)
 
-pub weight-nil : weight [] ≡ 0
-unfolding weight
-weight-nil = refl
+abbrev pub weight : List ℕ → ℕ
+weight = weightBy splits
 
-pub weight-append : (xs ys : List ℕ) → weight (xs ++ ys) ≡ weight xs + weight ys
-unfolding weight
-weight-append [] ys = sym (zero-add (weight ys))
-weight-append (x ∷ xs) ys = let h : weight (xs ++ ys) ≡ weight xs + weight ys = weight-append xs ys in omega arith
-
-pub length-weight : (xs : List ℕ) → length xs ≤ weight xs
-unfolding weight
-length-weight [] = zero-le
-length-weight (x ∷ xs) = let h : length xs ≤ weight xs = length-weight xs in omega arith
-
-pub weight-most : (n : ℕ) (xs : List ℕ) → weight (take n xs) ≤ 2 * length (take n xs)
-unfolding weight
-weight-most zero xs = zero-le
-weight-most (suc n) [] = zero-le
-weight-most (suc n) (x ∷ xs) = let r : weight (take n xs) ≤ 2 * length (take n xs) = weight-most n xs in omega arith
-
-pub weight-drop : (l : List ℕ) → weight (drop 1 l) ≤ weight l
-unfolding weight
-weight-drop [] = zero-le
-weight-drop (x ∷ l) = omega arith
+pub weight-twice : (xs : List ℕ) → weight xs ≤ 2 * length xs
+weight-twice xs = weight-most splits xs (each-key (λ k. omega arith) xs)

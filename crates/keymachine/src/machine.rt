@@ -144,16 +144,25 @@ impl ModalMachine {
     pub fn input_key(self, key: u16, budget: u16) -> KeyResult
         ensures { λ r. ⌜ (machineOf (r .machine), pressOf (r .answer)) ≡ call graphKind (machineOf self) (Press (record { key = key; budget = budget })) ⌝ }
     {
+        // Taken apart down to the words: of a struct that is lent from, the compiler keeps a second copy.
+        let words = self.map.graph.words;
         let counts = self.map.graph.counts;
         let tables = self.map.tables;
         let live = self.live;
-        let r = live::input_key(&self.map.graph.words, counts, tables, live, key, budget);
+        let r = live::input_key(&words, counts, tables, live, key, budget);
         let next = r.live;
         let answer = r.answer;
-        let mut m = self;
-        m.live = next;
         KeyResult {
-            machine: m,
+            machine: ModalMachine {
+                map: Map {
+                    graph: Graph {
+                        words: words,
+                        counts: counts,
+                    },
+                    tables: tables,
+                },
+                live: next,
+            },
             answer: answer,
         }
     }
@@ -166,10 +175,12 @@ impl ModalMachine {
         let r = live.pop();
         let next = r.live;
         let answer = r.answer;
-        let mut m = self;
-        m.live = next;
+        let map = self.map;
         PopResult {
-            machine: m,
+            machine: ModalMachine {
+                map: map,
+                live: next,
+            },
             answer: answer,
         }
     }
@@ -183,10 +194,12 @@ impl ModalMachine {
         let r = live.reset_mode(tables);
         let next = r.live;
         let answer = r.answer;
-        let mut m = self;
-        m.live = next;
+        let map = self.map;
         CallResult {
-            machine: m,
+            machine: ModalMachine {
+                map: map,
+                live: next,
+            },
             answer: answer,
         }
     }
@@ -199,10 +212,12 @@ impl ModalMachine {
         let r = live.repeat(sequence, over);
         let next = r.live;
         let answer = r.answer;
-        let mut m = self;
-        m.live = next;
+        let map = self.map;
         CallResult {
-            machine: m,
+            machine: ModalMachine {
+                map: map,
+                live: next,
+            },
             answer: answer,
         }
     }

@@ -40,13 +40,6 @@ fn chosen(over: u16, old: u16) -> u16
 }
 
 impl Context {
-    // The default context: no count, no mark.
-    pub fn default() -> Context
-        ensures { λ r. ⌜ contextOf r ≡ v.noContext ⌝ }
-    {
-        Context { count: 0, mark: 0 }
-    }
-
     // The event hook: a digit counts for class 0, and Any sets the mark.
     pub fn event(self, event: EdgeEvent, key: u16) -> Context
         ensures { λ r. ⌜ contextOf r ≡ v.hook (eventOf event) key (contextOf self) ⌝ }

@@ -51,7 +51,10 @@ pub(crate) fn mode_entry(tables: &[u64; TableWords::WORDS], mode: u16) -> ModeEn
 {
     let all = &tables[..];
     let modes = &all[TableWords::MODES_AT..TableWords::RULES_AT];
-    let n = number::least(number::low(all[1]), TableWords::MODES as usize);
+    let n = number::least(
+        number::low(all[TableWords::MODE_COUNT_AT]),
+        TableWords::MODES as usize,
+    );
     let i = mode as usize;
     if i < n {
         let head = number::word_at(modes, i * 3 + 2);

@@ -101,7 +101,7 @@ pub(crate) fn apply_rules(
 {
     let all = &tables[..];
     let rules = &all[TableWords::RULES_AT..TableWords::WORDS];
-    let n = number::least(number::low(all[2]), rules.len());
+    let n = number::least(number::low(all[TableWords::RULE_COUNT_AT]), rules.len());
     let mut i = 0usize;
     while i < n {
         let e = apply_rule(rules[i], sequences, mode, w);

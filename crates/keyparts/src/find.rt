@@ -43,7 +43,7 @@ pub(crate) fn find_node<'a>(
 }
 
 // How many nodes are left beside so many.
-pub fn free_nodes(count: u16) -> u16
+pub(crate) fn free_nodes(count: u16) -> u16
     ensures { λ r. ⌜ ((hs ws : List ℕ) (es : List g.Edge) → length hs ≡ 1040 → length ws ≡ 1040 → HintFits (graphBy (nodesOf hs ws count) es) r) ⌝ }
 {
     Graph::NODES - number::least_of(count, Graph::NODES as usize)

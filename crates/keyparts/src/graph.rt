@@ -2,15 +2,11 @@
 // stands.
 use crate::find;
 use crate::find::Found;
-use crate::follow::FollowResult;
 use crate::layout;
-use crate::node;
-use crate::node::Node;
-use crate::tables::TableWords;
 ghost use mathlib.Core.Path.{_≡_};
 ghost use Rattle.rules.specs.Graph as g;
 ghost use Rattle.rules.specs.Calls.{HintFits, FindFits};
-ghost use Rattle.keyparts.specs.View.{graphOf, nodeOf, followOf, classesIn, foundOf};
+ghost use Rattle.keyparts.specs.View.{graphOf, foundOf};
 
 // How many words of the nodes and of the edges count.
 #[repr(C)]
@@ -38,13 +34,6 @@ impl Graph {
     // A word for each edge, and two for each node.
     pub const WORDS: usize = Graph::EDGES as usize + 2 * Graph::NODES as usize;
 
-    // The root of a mode.
-    pub fn root(mode: u16) -> u16
-        ensures { λ r. ⌜ r ≡ mode ⌝ }
-    {
-        node::root(mode)
-    }
-
     // No binding: the mode roots alone.
     pub fn fresh() -> Graph
         ensures { λ r. ⌜ graphOf r ≡ g.freshGraph ⌝ }
@@ -62,27 +51,6 @@ impl Graph {
                 edges: 0,
             },
         }
-    }
-
-    pub fn node(self, node: u16) -> Node
-        ensures { λ r. ⌜ nodeOf r ≡ g.getNode (graphOf self) node ⌝ }
-    {
-        let n = self.counts.nodes;
-        layout::node_at(&self.words, n, node)
-    }
-
-    pub fn follow_edge(self, tables: TableWords, node: u16, key: u16) -> FollowResult
-        ensures { λ r. ⌜ followOf r ≡ g.followEdge (classesIn (tables .words)) (graphOf self) node key ⌝ }
-    {
-        let n = self.counts.edges;
-        layout::follow_edge(&self.words, n, &tables.words, node, key)
-    }
-
-    pub fn has_edges(self, node: u16) -> bool
-        ensures { λ r. ⌜ r ≡ g.hasEdges (graphOf self) node ⌝ }
-    {
-        let n = self.counts.edges;
-        layout::has_edges(&self.words, n, node)
     }
 
     // How many nodes are left.

@@ -117,25 +117,10 @@ pub fn follow_links<'a>(
         count,
         links,
         classes,
-        number::low(each[0]),
+        number::low(each[TableWords::CLASS_COUNT_AT]),
         node,
         key,
     )
-}
-
-// One round of a key at a node.
-pub fn follow_edge<'a>(
-    words: &'a [u64; Graph::WORDS],
-    count: u16,
-    tables: &'a [u64; TableWords::WORDS],
-    node: u16,
-    key: u16,
-) -> FollowResult
-    requires { ⌜ (length (now words) ≡ 4128) × (length (now tables) ≡ 131) ⌝ }
-    ensures { λ r. ⌜ ((ns : List g.Node) → followOf r ≡ g.followEdge (classesIn (now (tables .entry))) (graphBy ns (edgesOf (edgeWords (now (words .entry))) count)) node key) ⌝ }
-{
-    let index = index_of(words, count);
-    follow_links(words, count, &index.links, tables, node, key)
 }
 
 // The first word of a node; 0 where there is no such node.

@@ -2,11 +2,11 @@
 // only read from them: following a key, finding, range tests. What they do is said in the rules' terms, and of searches and
 // links in those of specs/View.antt, which is also the view of the words.
 //
-// The functions that are called for every key take slices of words and copy nothing.
+// The functions that are called for every key are lent a graph's words and the tables' and copy nothing.
 pub mod answer;
 pub mod class;
 pub mod copy;
-pub mod edge;
+mod edge;
 pub mod event;
 pub mod find;
 pub mod follow;

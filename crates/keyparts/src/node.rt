@@ -178,7 +178,7 @@ pub fn root(mode: u16) -> u16
 }
 
 // The first word of a node; 0, which is that of an empty node of mode 0, where there is no such node.
-pub fn head_at(heads: &[u64], count: u16, node: u16) -> u64
+pub(crate) fn head_at(heads: &[u64], count: u16, node: u16) -> u64
     ensures { λ r. ⌜ r ≡ getD (take count (now (heads .entry))) node 0 ⌝ }
 {
     let i = node as usize;
@@ -190,7 +190,7 @@ pub fn head_at(heads: &[u64], count: u16, node: u16) -> u64
 }
 
 // The words of a node; those of an empty node of mode 0, where there is no such node.
-pub fn words_at<'a>(heads: &'a [u64], acts: &'a [u64], count: u16, node: u16) -> NodeWords
+pub(crate) fn words_at<'a>(heads: &'a [u64], acts: &'a [u64], count: u16, node: u16) -> NodeWords
     ensures { λ r. ⌜ nodeIn r ≡ getD (nodesOf (now (heads .entry)) (now (acts .entry)) count) node g.noNode ⌝ }
 {
     let i = node as usize;
@@ -208,7 +208,7 @@ pub fn words_at<'a>(heads: &'a [u64], acts: &'a [u64], count: u16, node: u16) ->
 }
 
 // The node at a number.
-pub fn node_at<'a>(heads: &'a [u64], acts: &'a [u64], count: u16, node: u16) -> Node
+pub(crate) fn node_at<'a>(heads: &'a [u64], acts: &'a [u64], count: u16, node: u16) -> Node
     ensures { λ r. ⌜ ((es : List g.Edge) → nodeOf r ≡ g.getNode (graphBy (nodesOf (now (heads .entry)) (now (acts .entry)) count) es) node) ⌝ }
 {
     words_at(heads, acts, count, node).node()

@@ -37,7 +37,7 @@ pub fn key_of(from: u16, code: u32) -> u64
 }
 
 // Which link leads to the first edge of the chain for the upper part of an edge's word.
-pub fn chain_of(key: u64) -> usize
+pub(crate) fn chain_of(key: u64) -> usize
     ensures { λ r. ⌜ (r ≡ chainOf key) × (r < 2304) ⌝ }
 {
     Graph::EDGES as usize + (((key / 65536 % 256 + key % 256) % 256) as usize)

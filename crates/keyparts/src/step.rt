@@ -33,7 +33,7 @@ pub fn mode_valid(m: Maybe) -> bool
     }
 }
 
-pub fn mark_valid(m: Maybe) -> bool
+fn mark_valid(m: Maybe) -> bool
     ensures { λ r. ⌜ r ≡ present v.isMark (maybeOf m) ⌝ }
 {
     match m {

@@ -27,6 +27,13 @@ impl TableWords {
     // A mode has three words.
     pub const MODE_WORDS: usize = 3 * TableWords::MODES as usize;
 
+    // Where their counts stand: of the classes, of the modes and of the rules.
+    pub const CLASS_COUNT_AT: usize = 0;
+
+    pub const MODE_COUNT_AT: usize = 1;
+
+    pub const RULE_COUNT_AT: usize = 2;
+
     // Where the classes, the modes and the rules begin, and where the rules end.
     pub const CLASSES_AT: usize = 3;
 
@@ -55,9 +62,9 @@ impl TableWords {
         ensures { λ r. ⌜ (sizesIn (r .words) ≡ sizes) × (classWords (r .words) ≡ classes) × (modeWords (r .words) ≡ modes) × (ruleWords (r .words) ≡ rules) ⌝ }
     {
         let mut words = [0u64; TableWords::WORDS];
-        words[0] = sizes.classes as u64;
-        words[1] = sizes.modes as u64;
-        words[2] = sizes.rules as u64;
+        words[TableWords::CLASS_COUNT_AT] = sizes.classes as u64;
+        words[TableWords::MODE_COUNT_AT] = sizes.modes as u64;
+        words[TableWords::RULE_COUNT_AT] = sizes.rules as u64;
         copy::copy(
             &mut words,
             TableWords::CLASSES_AT,

@@ -1,6 +1,5 @@
 // Map files and the run on them, for the C firmware: bindings are added as they are read, keys are played on the map, and the
-// pairs are written. What a file's parts are read with stands in the crate below, whose numbers and places are handed on
-// from here.
+// pairs are written. What a file's parts are read with stands in the crate below, whose numbers are handed on from here.
 mod bind;
 pub mod map;
 mod pairs;
@@ -9,4 +8,3 @@ pub mod run;
 mod write;
 
 pub use mapparts::number;
-pub use mapparts::place;

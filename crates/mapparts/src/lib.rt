@@ -4,7 +4,7 @@
 //
 // A part is read at a place that carries the refusal met on the way, so parts are read in a row with no test between them.
 pub mod keys;
-pub mod list;
+mod list;
 pub mod number;
 pub mod part;
 pub mod place;

@@ -11,17 +11,17 @@ ghost use Rattle.rules.specs.MapFile.{readPart, listOf};
 ghost use Rattle.keyparts.specs.View.{repeatOf, eventOf, partOf, wholePath};
 ghost use Rattle.mapparts.specs.View.{placeOf, Reads, readRepeat, readEvent};
 
-pub struct RepeatRead {
+struct RepeatRead {
     pub repeat: EdgeRepeat,
     pub place: FilePlace,
 }
 
-pub struct EventRead {
+struct EventRead {
     pub event: EdgeEvent,
     pub place: FilePlace,
 }
 
-pub struct PartRead {
+struct PartRead {
     pub part: EdgePathPart,
     pub place: FilePlace,
 }
@@ -32,7 +32,7 @@ pub struct PathRead {
 }
 
 // 0 once, 1 min, 2 max, the latter two with a number.
-pub fn read_repeat(s: &[u8], from: FilePlace) -> RepeatRead
+fn read_repeat(s: &[u8], from: FilePlace) -> RepeatRead
     ensures { λ r. ⌜ Reads (placeOf (now (s .entry)) from) readRepeat (repeatOf (r .repeat)) (placeOf (now (s .entry)) (r .place)) ⌝ }
 {
     let k = from.up_to(s, 2);
@@ -58,7 +58,7 @@ pub fn read_repeat(s: &[u8], from: FilePlace) -> RepeatRead
 }
 
 // 0 key, 1 class, 2 any, 3 fallthrough, the first two with a value.
-pub fn read_event(s: &[u8], from: FilePlace) -> EventRead
+fn read_event(s: &[u8], from: FilePlace) -> EventRead
     ensures { λ r. ⌜ Reads (placeOf (now (s .entry)) from) readEvent (eventOf (r .event)) (placeOf (now (s .entry)) (r .place)) ⌝ }
 {
     let k = from.up_to(s, 3);
@@ -91,7 +91,7 @@ pub fn read_event(s: &[u8], from: FilePlace) -> EventRead
     }
 }
 
-pub fn read_part(s: &[u8], from: FilePlace) -> PartRead
+fn read_part(s: &[u8], from: FilePlace) -> PartRead
     ensures { λ r. ⌜ Reads (placeOf (now (s .entry)) from) readPart (partOf (r .part)) (placeOf (now (s .entry)) (r .place)) ⌝ }
 {
     let r = read_repeat(s, from);

@@ -19,32 +19,32 @@ ghost use Rattle.keypairs.specs.View.{ruleOf, rulesOf, entryOf, modesOf, tables
 ghost use Rattle.mapparts.specs.View.{placeOf, Reads};
 
 // The word of one class or of one rule.
-pub struct WordRead {
+struct WordRead {
     pub word: u64,
     pub place: FilePlace,
 }
 
 // A mode's three words.
-pub struct ModeRead {
+struct ModeRead {
     pub enter: u64,
     pub unmapped: u64,
     pub head: u64,
     pub place: FilePlace,
 }
 
-pub struct ClassesRead {
+struct ClassesRead {
     pub words: [u64; TableWords::CLASSES as usize],
     pub count: u16,
     pub place: FilePlace,
 }
 
-pub struct ModesRead {
+struct ModesRead {
     pub words: [u64; TableWords::MODE_WORDS],
     pub count: u16,
     pub place: FilePlace,
 }
 
-pub struct RulesRead {
+struct RulesRead {
     pub words: [u64; TableWords::RULES as usize],
     pub count: u16,
     pub place: FilePlace,
@@ -63,7 +63,7 @@ fn rule_word(mode: u16, low: u16, high: u16, sequence: u16, status: u16) -> u64
     small + 1024 * ((low as u64) + 65536 * (high as u64))
 }
 
-pub fn read_class(s: &[u8], from: FilePlace) -> WordRead
+fn read_class(s: &[u8], from: FilePlace) -> WordRead
     ensures { λ r. ⌜ Reads (placeOf (now (s .entry)) from) readClass (classAt (r .word)) (placeOf (now (s .entry)) (r .place)) ⌝ }
 {
     let of = from.below(s, EdgeEvent::CLASSES);
@@ -78,7 +78,7 @@ pub fn read_class(s: &[u8], from: FilePlace) -> WordRead
     }
 }
 
-pub fn read_rule(s: &[u8], from: FilePlace) -> WordRead
+fn read_rule(s: &[u8], from: FilePlace) -> WordRead
     ensures { λ r. ⌜ Reads (placeOf (now (s .entry)) from) readRule (ruleOf (r .word)) (placeOf (now (s .entry)) (r .place)) ⌝ }
 {
     let mode = from.below(s, Graph::ROOTS);
@@ -104,7 +104,7 @@ pub fn read_rule(s: &[u8], from: FilePlace) -> WordRead
 }
 
 // Enter list, unmapped list, and 0 or the next mode + 1.
-pub fn read_mode(s: &[u8], from: FilePlace) -> ModeRead
+fn read_mode(s: &[u8], from: FilePlace) -> ModeRead
     ensures { λ r. ⌜ Reads (placeOf (now (s .entry)) from) readMode (entryOf (r .enter ∷ r .unmapped ∷ r .head ∷ [])) (placeOf (now (s .entry)) (r .place)) ⌝ }
 {
     let enter = list::read_actions(s, from);
@@ -123,7 +123,7 @@ pub fn read_mode(s: &[u8], from: FilePlace) -> ModeRead
     }
 }
 
-pub fn read_classes(s: &[u8], from: FilePlace) -> ClassesRead
+fn read_classes(s: &[u8], from: FilePlace) -> ClassesRead
     ensures { λ r. ⌜ Reads (placeOf (now (s .entry)) from) (listOf mostClasses readClass) (classesOf (r .words) (r .count)) (placeOf (now (s .entry)) (r .place)) ⌝ }
 {
     let n = from.up_to(s, TableWords::CLASSES);
@@ -145,7 +145,7 @@ pub fn read_classes(s: &[u8], from: FilePlace) -> ClassesRead
     }
 }
 
-pub fn read_modes(s: &[u8], from: FilePlace) -> ModesRead
+fn read_modes(s: &[u8], from: FilePlace) -> ModesRead
     ensures { λ r. ⌜ Reads (placeOf (now (s .entry)) from) (listOf modeCount readMode) (modesOf (r .count) (r .words)) (placeOf (now (s .entry)) (r .place)) ⌝ }
 {
     let n = from.up_to(s, TableWords::MODES);
@@ -169,7 +169,7 @@ pub fn read_modes(s: &[u8], from: FilePlace) -> ModesRead
     }
 }
 
-pub fn read_rules(s: &[u8], from: FilePlace) -> RulesRead
+fn read_rules(s: &[u8], from: FilePlace) -> RulesRead
     ensures { λ r. ⌜ Reads (placeOf (now (s .entry)) from) (listOf mostRules readRule) (rulesOf (r .count) (r .words)) (placeOf (now (s .entry)) (r .place)) ⌝ }
 {
     let n = from.up_to(s, TableWords::RULES);

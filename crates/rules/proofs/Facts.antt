@@ -24,7 +24,8 @@ use Rattle.rules.proofs.Tests.{by-cases, eqb-is, T-and}
 use Rattle.rules.proofs.Runs.{saysRefused}
 use Rattle.rules.proofs.Results.{Always, accepts, refuses, value}
 use Rattle.rules.proofs.Grown.{single-place}
-use Rattle.rules.proofs.Rounds.{Each, Bounded, length-weight}
+use Rattle.rules.proofs.Weights.{Each, length-weight}
+use Rattle.rules.proofs.Rounds.{Bounded, splits}
 use Rattle.rules.proofs.Reached.{leaves-single, fresh-single, Is16, KeyIs16, begins-bounded, round-keeps, leaves-short}
 use Rattle.rules.proofs.Refusals.{open-always, key-always, repeat-always, reset-always, map-always, prefix-always, file-always, run-always}
 
@@ -54,7 +55,7 @@ pub data Reaches {P : Type 0} (nav : Navigator P) (ks : List ℕ) (m : State P) 
 -- from a trail of at most 64 keys, where it and the key that is pressed are of 16 bits, there are never more than 130 keys to try
 pub stack-from-a-trail : {P : Type 0} (nav : Navigator P) (k : ℕ) (m : State P) → k ≤ largest → length (m .shared .trail) ≤ 64 → Each (λ x. x ≤ largest) (m .shared .trail)
     → {ks : List ℕ} {m₁ : State P} → Reaches nav (k ∷ []) m ks m₁ → length ks ≤ 130
-stack-from-a-trail {P} nav k m h l e {ks} r = omega (arith, length-weight ks, go r .weighs)
+stack-from-a-trail {P} nav k m h l e {ks} r = omega (arith, length-weight splits ks, go r .weighs)
   where
     go : {ks₁ : List ℕ} {m₁ : State P} → Reaches nav (k ∷ []) m ks₁ m₁ → Bounded 130 mostTrail Is16 ks₁ m₁
     go begins = begins-bounded k m h (l, e)

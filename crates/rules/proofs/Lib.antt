@@ -16,6 +16,7 @@ pub mod Following
 pub mod Adding
 pub mod Demand3
 pub mod Grown
+pub mod Weights
 pub mod Rounds
 pub mod PlainCalls
 pub mod Refusals

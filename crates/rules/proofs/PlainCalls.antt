@@ -13,7 +13,7 @@ use Rattle.rules.specs.Calls.{Call, Open, Map, Prefix, Press, Pop, Repea
 use Rattle.rules.specs.ListReader.{plainPart, plain}
 use Rattle.rules.proofs.Table.{once}
 use Rattle.rules.proofs.Tests.{T-and, and-T}
-use Rattle.rules.proofs.Rounds.{Each}
+use Rattle.rules.proofs.Weights.{Each}
 
 -- a part of a path: a key, a class or any-key, once
 pub data PlainPart : Part → Type 0 where

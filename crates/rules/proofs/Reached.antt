@@ -15,7 +15,8 @@ use Rattle.rules.specs.Calls.{Kind, Machine, withBindings, navigate, gra
 use Rattle.rules.specs.Calls.{fresh, map-call, prefix-call, key-call, settled, pressed, popped, call, leaves}
 use Rattle.rules.proofs.Results.{Always, accepts, refuses, always-more}
 use Rattle.rules.proofs.Grown.{Single, stored-single}
-use Rattle.rules.proofs.Rounds.{Each, Bounded, weight, weight-most, round-bounded, loop-bounded}
+use Rattle.rules.proofs.Weights.{Each, weightBy}
+use Rattle.rules.proofs.Rounds.{Bounded, weight-16, round-bounded, loop-bounded}
 use Rattle.rules.proofs.Refusals.{Stays, open-always, repeat-always, reset-always, map-always, prefix-always}
 
 -- whatever the number is
@@ -94,11 +95,11 @@ abbrev pub Short : List ℕ → Type 0
 Short tr = (length tr ≤ mostTrail) × Each Is16 tr
 
 pub begins-bounded : {P : Type 0} (k : ℕ) (m : State P) → Is16 k → Short (m .shared .trail) → Bounded 130 mostTrail Is16 (k ∷ []) m
-unfolding weight
+unfolding weightBy
 begins-bounded k m h s =
     let tr = m .shared .trail in
     let a : length tr ≤ mostTrail = s .0 in
-    record { weighs = omega (arith, weight-most tr (s .1)); trails = a; tries = (h, tt); waits = s .1 }
+    record { weighs = omega (arith, weight-16 tr (s .1)); trails = a; tries = (h, tt); waits = s .1 }
 
 rest-16 : (k : ℕ) → Is16 k → Is16 (restOf k)
 rest-16 k h = omega arith

@@ -21,7 +21,8 @@ use Rattle.rules.specs.Run.{mostOutput, numbersIn, readKeys, pairBytes, 
 use Rattle.rules.proofs.Results.{Always, accepts, refuses, Whatever, always-bind, always-more, always-unless, always-if}
 use Rattle.rules.proofs.Edges.{edge, stored}
 use Rattle.rules.proofs.Grown.{map-grows, prefix-grows}
-use Rattle.rules.proofs.Rounds.{weight, each-key, goto-keeps, loop-bounded}
+use Rattle.rules.proofs.Weights.{each-key}
+use Rattle.rules.proofs.Rounds.{weight, goto-keeps, loop-bounded}
 
 -- ---- calls of a machine
 
@@ -40,7 +41,7 @@ module _ (𝓚 : Kind) {N : ℕ → Bool} where
       let tr = s .state .shared .trail in
       always-more (λ m h. tt)
       (loop-bounded (navigate 𝓚 s) six five seven (weight (i .key ∷ []) + weight tr) (mostTrail + length tr) (omega arith) (λ k. Unit {0}) tt (λ k h. tt) eight (i .budget) 0 (i .key ∷ []) (s .state)
-      (record { weighs = omega arith; trails = omega arith; tries = (tt, tt); waits = each-key tr }))
+      (record { weighs = omega arith; trails = omega arith; tries = (tt, tt); waits = each-key (λ k. tt) tr }))
 
   pub repeat-always : T (N 1) → T (N 5) → (q : ℕ) (over : Option Context) (s : Machine 𝓚) → Always N (Stays s) (repeat-call 𝓚 q over s)
   unfolding repeat-call repeatSequence

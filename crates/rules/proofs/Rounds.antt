@@ -14,56 +14,25 @@ use Rattle.rules.specs.Values.{largest, composed, mostTrail, decomposes,
 use Rattle.rules.specs.Tables.{modeEntry}
 use Rattle.rules.specs.KeyLoop.{Shared, withMode, giveAll, InputResult, Again, ClearTrail, Consumed, NeedMore, Unmapped, RunStep, RetryAfter, Navigator, State}
 use Rattle.rules.specs.KeyLoop.{runHook, setMark, orDefault, at, clearTrail, proceed, gotoMode, unmapped, stepTo, step, after, round, loop}
+use Rattle.rules.proofs.Weights.{Each, each-append, each-drop, each-map, weightBy, weight-append, weight-drop, weight-most}
 use Rattle.rules.proofs.Results.{Always, accepts, refuses, always-bind, unless-so, if-so, giveAll-keeps}
 
 -- ---- weights
 
-unfoldable pub weight : List ℕ → ℕ
-weight [] = 0
-weight (k ∷ ks) = 1 + k / composed + weight ks
+-- how often a key can decompose, by its number alone
+abbrev pub splits : ℕ → ℕ
+splits k = k / composed
 
-weight-append : (xs ys : List ℕ) → weight (xs ++ ys) ≡ weight xs + weight ys
-unfolding weight
-weight-append [] ys = omega arith
-weight-append (x ∷ xs) ys = omega (arith, weight-append xs ys)
+abbrev pub weight : List ℕ → ℕ
+weight = weightBy splits
 
-weight-drop : (xs : List ℕ) → weight (drop 1 xs) ≤ weight xs
-unfolding weight
-weight-drop [] = omega arith
-weight-drop (x ∷ xs) = omega arith
-
-pub length-weight : (xs : List ℕ) → length xs ≤ weight xs
-unfolding weight
-length-weight [] = omega arith
-length-weight (x ∷ xs) = omega (arith, length-weight xs)
-
-weight-parts : (k : ℕ) (ks : List ℕ) → composed ≤ k → weight (firstKey ∷ restOf k ∷ ks) ≡ weight (k ∷ ks)
-unfolding weight
-weight-parts k ks h = omega arith
-
--- ---- of each key
-
-abbrev pub Each : {A : Type 0} → (A → Type 0) → List A → Type 0
-Each K [] = Unit {0}
-Each K (k ∷ ks) = K k × Each K ks
-
-each-append : (K : ℕ → Type 0) (xs ys : List ℕ) → Each K xs → Each K ys → Each K (xs ++ ys)
-each-append K [] ys h k = k
-each-append K (x ∷ xs) ys h k = (h .0, each-append K xs ys (h .1) k)
-
-each-drop : (K : ℕ → Type 0) (xs : List ℕ) → Each K xs → Each K (drop 1 xs)
-each-drop K [] h = tt
-each-drop K (x ∷ xs) h = h .1
-
-pub each-key : (xs : List ℕ) → Each (λ k. Unit {0}) xs
-each-key [] = tt
-each-key (x ∷ xs) = (tt, each-key xs)
+weight-splits : (k : ℕ) (ks : List ℕ) → composed ≤ k → weight (firstKey ∷ restOf k ∷ ks) ≡ weight (k ∷ ks)
+unfolding weightBy
+weight-splits k ks h = omega arith
 
 -- a key of 16 bits weighs at most 2
-pub weight-most : (xs : List ℕ) → Each (λ k. k ≤ largest) xs → weight xs ≤ 2 * length xs
-unfolding weight
-weight-most [] h = omega arith
-weight-most (x ∷ xs) h = let a : x ≤ largest = h .0 in omega (arith, weight-most xs (h .1))
+pub weight-16 : (xs : List ℕ) → Each (λ k. k ≤ largest) xs → weight xs ≤ 2 * length xs
+weight-16 xs h = weight-most splits xs (each-map (λ k l. omega arith) xs h)
 
 -- ---- steps and unmapped keys leave the trail as it is
 
@@ -117,13 +86,13 @@ pub record Bounded {P : Type 0} (w l : ℕ) (K : ℕ → Type 0) (ks : List ℕ)
 module _ {P : Type 0} {w l : ℕ} {K : ℕ → Type 0} where
   -- with no trail
   cleared : (ks : List ℕ) (m : State P) → m .shared .trail ≡ [] → weight ks ≤ w → Each K ks → Bounded w l K ks m
-  unfolding weight
+  unfolding weightBy
   cleared ks m e h k = record { weighs = rw e (omega arith); trails = rw e (omega arith); tries = k; waits = rw e tt }
 
 module _ {P : Type 0} (nav : Navigator P) {N : ℕ → Bool} (six : T (N 6)) (five : T (N 5)) (seven : T (N 7))
     (w l : ℕ) (room : mostTrail ≤ l) (K : ℕ → Type 0) (first : K firstKey) (rest : (k : ℕ) → K k → K (restOf k)) where
   after-bounded : (x : InputResult) (k : ℕ) (ks : List ℕ) (m : State P) → Bounded w l K (k ∷ ks) m → Always N (λ r. Bounded w l K (r .0) (r .1)) (after nav x k ks m)
-  unfolding after weight
+  unfolding after weightBy
   after-bounded Again k ks m h = accepts h
   after-bounded ClearTrail k ks m h = accepts (cleared (k ∷ ks) (clearTrail m) refl (omega (arith, h .weighs)) (h .tries))
   after-bounded Consumed k ks m h = accepts (cleared ks (clearTrail m) refl (omega (arith, h .weighs)) (h .tries .1))
@@ -131,7 +100,7 @@ module _ {P : Type 0} (nav : Navigator P) {N : ℕ → Bool} (six : T (N 6)) (fi
       let tr = m .shared .trail in
       unless-so (ltb (length tr) mostTrail) 7 seven
       (λ t. accepts (record {
-        weighs = omega (arith, h .weighs, weight-append tr (k ∷ []));
+        weighs = omega (arith, h .weighs, weight-append splits tr (k ∷ []));
         trails = omega (arith, length-append tr (k ∷ []), ltb→lt (length tr) mostTrail t);
         tries = h .tries .1;
         waits = each-append K tr (k ∷ []) (h .waits) (h .tries .0, tt);
@@ -141,14 +110,14 @@ module _ {P : Type 0} (nav : Navigator P) {N : ℕ → Bool} (six : T (N 6)) (fi
       let back = drop 1 (tr ++ (k ∷ [])) in
       if-so (decomposes k)
       (λ t. accepts (record {
-        weighs = omega (arith, h .weighs, weight-parts k ks (leb→le composed k t));
+        weighs = omega (arith, h .weighs, weight-splits k ks (leb→le composed k t));
         trails = h .trails;
         tries = (first, (rest k (h .tries .0), h .tries .1));
         waits = h .waits;
       }))
       (always-bind (unmapped-keeps nav six five (λ t. t ≡ []) (clearTrail m) refl)
       (λ m₁ e. accepts (cleared (back ++ ks) m₁ e
-      (omega (arith, h .weighs, weight-append back ks, weight-drop (tr ++ (k ∷ [])), weight-append tr (k ∷ [])))
+      (omega (arith, h .weighs, weight-append splits back ks, weight-drop splits (tr ++ (k ∷ [])), weight-append splits tr (k ∷ [])))
       (each-append K back ks (each-drop K (tr ++ (k ∷ [])) (each-append K tr (k ∷ []) (h .waits) (h .tries .0, tt))) (h .tries .1)))))
   after-bounded (RunStep s) k ks m h =
       always-bind (step-keeps nav six five (λ t. t ≡ []) s (clearTrail m) refl)

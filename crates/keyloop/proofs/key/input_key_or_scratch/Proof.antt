@@ -14,7 +14,7 @@ use Rattle.keypairs.proofs.Lists.{outcome-ok, outcome-no}
 use Rattle.keyloop.specs.declared.turn.InputResult.{InputResult}
 use Rattle.keyloop.specs.View.{linkNavigator, resultBy}
 use Rattle.keyloop.proofs.Lists.{take-min}
-use Rattle.keyloop.proofs.Stack.{weight, weight-most, drop-put}
+use Rattle.keyloop.proofs.Stack.{weight, weight-twice, drop-put}
 use Rattle.keyloop.proofs.Navigators.{step-same, unmapped-same}
 use Rattle.keyloop.proofs.Loop.{Round, Held, Lens, lens-zero, take-more, back-none, back-some, held-start, held-pop, held-done, held-from, held-anew, held-room, held-out, met-again, met-clear, met-consumed, met-more, met-full, met-big, met-unmapped, met-unmapped-refused, met-step, met-step-refused, met-retry, met-retry-refused}
 use Rattle.keyloop.proofs.key.input_key_or_scratch.Statement.{statement}
@@ -61,7 +61,7 @@ keys-holds : tie.Need-keys-holds Inv-loop μ-loop Inv-keys μ-keys
 keys-holds c = let a = c .before .args in let p = c .before .pre in (
   rw (take-min (a .start .trailed) 64 (a .trail .now) (c .least .result) (p .1 .2) (c .least .ensures))
       (held-start (linkNavigator (a .words .now) (a .counts) (a .links .now)) (a .budget) (a .first) (stateOf (a .start) (tablesIn (a .tables .now)) (a .queue .now) (a .sequences .now) (take (a .start .trailed) (a .trail .now))) (replicate 130 0) refl
-      (omega (arith, weight-most (a .start .trailed) (a .trail .now), length-take (a .start .trailed) (a .trail .now)))),
+      (omega (arith, weight-twice (take (a .start .trailed) (a .trail .now)), length-take (a .start .trailed) (a .trail .now)))),
   record { queues = p .1 .0; tracked = p .1 .1; trails = p .1 .2; room = omega (arith, c .least .ensures) },
 )
 

@@ -9,7 +9,7 @@ pop-requires : tie.Need-pop-requires
 pop-requires c κs = search needs
 
 returns : tie.Need-returns
-returns c = let m = c .before .before .before .args .self in c .before .pop .ensures (graphOf (m .map .graph)) (tablesIn (m .map .tables .words))
+returns c = let m = c .before .before .before .before .args .self in c .before .before .pop .ensures (graphOf (m .map .graph)) (tablesIn (m .map .tables .words))
 
 pub pop-spec : {M : Type 1} → statement M
 pop-spec = tie.close (tie.spec pop-requires returns)

@@ -9,7 +9,7 @@ repeat-requires : tie.Need-repeat-requires
 repeat-requires c κs = search needs
 
 returns : tie.Need-returns
-returns c = let m = c .before .before .before .args .self in c .before .repeat .ensures (graphOf (m .map .graph)) (tablesIn (m .map .tables .words))
+returns c = let m = c .before .before .before .before .args .self in c .before .before .repeat .ensures (graphOf (m .map .graph)) (tablesIn (m .map .tables .words))
 
 pub repeat-spec : {M : Type 1} → statement M
 repeat-spec = tie.close (tie.spec repeat-requires returns)

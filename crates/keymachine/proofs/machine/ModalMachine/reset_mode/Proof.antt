@@ -8,7 +8,7 @@ reset-mode-requires : tie.Need-reset-mode-requires
 reset-mode-requires c κs = search needs
 
 returns : tie.Need-returns
-returns c = c .before .reset-mode .ensures (graphOf (c .before .before .before .before .args .self .map .graph))
+returns c = c .before .before .reset-mode .ensures (graphOf (c .before .before .before .before .before .args .self .map .graph))
 
 pub reset-mode-spec : {M : Type 1} → statement M
 reset-mode-spec = tie.close (tie.spec reset-mode-requires returns)
