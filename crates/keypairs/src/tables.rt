@@ -49,17 +49,17 @@ pub struct Tables {
 }
 
 // Were the entries in range? If so, the words are theirs.
-pub struct PackedClasses {
+struct PackedClasses {
     pub valid: bool,
     pub words: [u64; TableWords::CLASSES as usize],
 }
 
-pub struct PackedModes {
+struct PackedModes {
     pub valid: bool,
     pub words: [u64; TableWords::MODE_WORDS],
 }
 
-pub struct PackedRules {
+struct PackedRules {
     pub valid: bool,
     pub words: [u64; TableWords::RULES as usize],
 }
@@ -70,7 +70,7 @@ pub struct PackResult {
 }
 
 // A mode's three words.
-pub struct EntryWords {
+struct EntryWords {
     pub enter: u64,
     pub unmapped: u64,
     pub head: u64,
