@@ -1,19 +1,16 @@
 -- The key loop against `loop`, with any navigator: what each kind of round does to its invariant.
-use Prim.Native.Nat.{ℕ, zero, suc, _+_, _-_, _*_, _/_, _≤_, _<_, min, zero-le}
+use Prim.Native.Nat.{ℕ, zero, suc, _+_, _-_, _/_, _≤_, _<_, min, zero-le}
 use mathlib.Core.Path.{_≡_, refl, sym, ap, _∙_}
-use mathlib.Core.Bool.{Bool, true, false}
-use mathlib.Core.Option.{Option, none, some}
 use mathlib.Core.List.{List, [], _∷_, _++_, append-assoc}
 use native.Mathlib.Omega.{arith}
 use native.Mathlib.Nat.{sub-zero}
 use native.Mathlib.Numerals.{add-one}
-use lib.ListN.{length, take, drop, set, getD, length-drop, length-set, length-take, length-append, drop-of-length-le}
+use lib.ListN.{length, take, drop, set, getD, length-drop, length-set, drop-of-length-le}
 use lib.Seq.{drop-cons, take-suc-set}
-use lib.Dec.{ltb, leb}
 use borrow.Author.Tests.{lt-ltb, le-ltb, le-leb, lt-leb}
-use Rattle.rules.specs.Basics.{if_then_else_, Result, accept, refuse, _>>=_, unless}
-use Rattle.rules.specs.Values.{Event, Step}
-use Rattle.rules.specs.KeyLoop.{Shared, withTrail, State, at, clearTrail, KeyResult, Navigator, Turn, InputResult, Again, ClearTrail, Consumed, NeedMore, Unmapped, RunStep, RetryAfter, runHook, unmapped, step, after, round, proceed, loop, inputKey}
+use Rattle.rules.specs.Basics.{accept, refuse, _>>=_}
+use Rattle.rules.specs.Values.{Step}
+use Rattle.rules.specs.KeyLoop.{withTrail, State, at, clearTrail, KeyResult, Navigator, InputResult, Again, ClearTrail, Consumed, NeedMore, Unmapped, RunStep, RetryAfter, runHook, unmapped, step, after, round, proceed, loop, inputKey}
 use Rattle.rules.proofs.Weights.{weight-cons, weight-nil, weight-append, weight-drop, length-weight}
 use Rattle.keyloop.proofs.Stack.{splits, weight, drop-put}
 

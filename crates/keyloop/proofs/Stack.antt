@@ -1,15 +1,13 @@
 -- The stack of keys: the trail put back on it, and why 130 places are enough. Only what weighs more than one key decomposes,
 -- and into two that weigh one each, so the weight of stack and trail never rises.
-use Prim.Native.Nat.{ℕ, zero, suc, _+_, _-_, _*_, _/_, _≤_, _<_, min, zero-le}
-use mathlib.Core.Path.{_≡_, refl, sym, ap, _∙_}
-use mathlib.Core.List.{List, [], _∷_, _++_, append-assoc}
+use Prim.Native.Nat.{ℕ, suc, _+_, _-_, _*_, _/_, _≤_, _<_, min}
+use mathlib.Core.Path.{_≡_, ap, _∙_}
+use mathlib.Core.List.{List, _∷_, _++_, append-assoc}
 use native.Mathlib.Omega.{arith}
-use native.Mathlib.Nat.{zero-add}
-use native.Mathlib.Numerals.{add-one}
-use lib.ListN.{length, take, drop, set, getD, length-take, length-drop, length-append, length-set, drop-of-length-le}
+use lib.ListN.{length, take, drop, set, length-drop, length-set}
 use Rattle.rules.proofs.Weights.{weightBy, weight-most, each-key}
 use Rattle.keyloop.proofs.Lists.{drop-take}
-use lib.Seq.{getD-drop, drop-cons, paste, paste-suc, length-paste, length-paste-head, set-at, drop-at, length-take-le, take-nil, drop-set-lt, getD-set-same}
+use lib.Seq.{drop-cons, paste, length-paste, length-paste-head, set-at, drop-at, length-take-le, drop-set-lt, getD-set-same}
 
 module _ (stack trail : List ℕ) (at n key : ℕ) (es : length stack ≡ 130) (et : length trail ≡ 64) (h0 : 0 < n) (h1 : n ≤ 64) (h2 : n ≤ at) (h3 : at ≤ 130) where
   pub back-length : (o : List ℕ) → o ≡ paste stack (at - n) (drop 1 trail) (n - 1) → length (set o (at - 1) key) ≡ 130

@@ -11,8 +11,7 @@ use Rattle.rules.specs.Basics.{Result, accept, refuse, _>>=_, unless}
 use Rattle.rules.specs.Values.{Context, Pair, Part, Step, mapValid, prefixValid}
 use Rattle.rules.specs.Tables.{Tables, tablesValid}
 use Rattle.rules.specs.Graph.{Graph, addMapping, addPrefix}
-use Rattle.rules.specs.KeyLoop.{Tracker, State, at, withQueue, KeyResult, Input, inputKey, gotoMode, resetMode, freshShared}
-use Rattle.rules.specs.KeyLoop as key
+use Rattle.rules.specs.KeyLoop.{Tracker, State, at, withQueue, KeyResult, Input, inputKey, gotoMode, resetMode}
 use Rattle.rules.specs.Calls.{Machine, Answer, Accepted, Refused, Pressed, PressRefused, Popped, Nothing, withBindings, withState, withShared, fresh, open-with, settled, pressed, popped, map-call, prefix-call, key-call, reset-call, call, Open, Map, Prefix, Press, Pop, Reset, graphKind, graphNavigator}
 use Rattle.keyparts.specs.View as kg
 use Rattle.keyparts.specs.View.{outcome}

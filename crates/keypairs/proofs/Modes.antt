@@ -3,17 +3,17 @@ use Prim.Native.Nat.{ℕ, zero, suc, _+_, _-_, _*_, _/_, _%_, _≤_, _<_, min}
 use mathlib.Core.Path.{_≡_, refl, sym, ap, _∙_}
 use mathlib.Core.Bool.{Bool, true, false, _&&_, not}
 use mathlib.Core.Option.{Option, none, some, Option·getD}
-use mathlib.Core.List.{List, [], _∷_, _++_, map}
+use mathlib.Core.List.{List, [], _∷_}
 use native.Mathlib.Omega.{arith}
 use native.Mathlib.Nat.{add-zero}
-use lib.ListN.{length, take, drop, set, getD, length-take, length-map, List·getD-eq-default}
+use lib.ListN.{length, take, getD, length-take, length-map, List·getD-eq-default}
 use lib.Seq.{getD-take}
 use lib.Dec.{eqb}
-use borrow.Author.Tests.{eqb-true, eqb-false}
+use borrow.Author.Tests.{eqb-true}
 use Rattle.rules.specs.Basics.{Result, accept, refuse, _>>=_, isThere}
 use Rattle.rules.specs.Values.{Pair, Context, noContext, Step}
 use Rattle.rules.specs.Tables.{Tables, ModeEntry, noEntry, modeEntry}
-use Rattle.rules.specs.KeyLoop.{Tracker, Shared, State, at, pushAll, giveAll, gotoMode, unmapped, stepTo, step, orDefault, setMark}
+use Rattle.rules.specs.KeyLoop.{Tracker, State, at, pushAll, giveAll, gotoMode, unmapped, stepTo, step, orDefault, setMark}
 use Rattle.rules.specs.Graph.{Graph}
 use Rattle.rules.specs.Calls.{graphNavigator}
 use Rattle.keyparts.specs.View.{fourOf, optOf, outcome}

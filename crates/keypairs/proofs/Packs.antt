@@ -9,7 +9,7 @@ use lib.ListN.{length, take, drop, set, getD, length-take, length-map, length-dr
 use lib.Seq.{drop-cons, take-suc, take-suc-set, take-all, getD-take, getD-set-same, set-set}
 use lib.Dec.{leb}
 use borrow.Author.Tests.{ltb-true, leb-true, le-leb, lt-leb}
-use Rattle.rules.specs.Basics.{every, Result, accept, refuse, unless}
+use Rattle.rules.specs.Basics.{every, accept, unless}
 use Rattle.rules.specs.Values.{isMode, isSequence}
 use Rattle.rules.specs.Tables.{ModeEntry, Rule, Tables, classValid, modeValid, ruleValid, tablesValid, noEntry}
 use Rattle.rules.proofs.Tests.{and-l, and-r}

@@ -1,18 +1,16 @@
 -- Pushes: one pair against `push`, and actions in a row against `pushAll`.
-use Prim.Native.Nat.{ℕ, zero, suc, _+_, _≤_, _<_, min}
-use mathlib.Core.Path.{_≡_, refl, sym, ap, _∙_}
-use mathlib.Core.List.{List, [], _∷_, _++_}
+use Prim.Native.Nat.{ℕ, _+_, _≤_, _<_, min}
+use mathlib.Core.Path.{_≡_}
+use mathlib.Core.List.{List, _∷_}
 use native.Mathlib.Omega.{arith}
 use native.Mathlib.Numerals.{add-one}
 use lib.ListN.{length, take, drop, set, getD, length-take, drop-of-length-le}
 use lib.Seq.{drop-cons, getD-take}
-use lib.Dec.{ltb}
 use borrow.Author.Tests.{lt-ltb, le-ltb}
-use Rattle.rules.specs.Basics.{Result, accept, refuse, _>>=_, unless}
+use Rattle.rules.specs.Basics.{accept, refuse, _>>=_}
 use Rattle.rules.specs.Values.{Pair, Context}
-use Rattle.rules.specs.Tables.{Tables, Rule}
+use Rattle.rules.specs.Tables.{Tables}
 use Rattle.rules.specs.KeyLoop.{Tracker, Shared, applyRules, push, pushAll}
-use Rattle.keyparts.specs.View.{outcome}
 use Rattle.keypairs.specs.View.{pairOf, pairsOf, shared}
 use Rattle.keypairs.proofs.Sequences.{pairs-more, length-pairs}
 

@@ -1,16 +1,16 @@
 -- Remembered sequences: a block of words against `track` and `fetch`, the eight blocks against the rules, all rules in a row.
 use Prim.Native.Nat.{ℕ, zero, suc, _+_, _-_, _*_, _/_, _%_, _≤_, _<_, min}
 use mathlib.Core.Path.{_≡_, refl, sym, ap, _∙_}
-use mathlib.Core.Bool.{Bool, true, false, _&&_}
+use mathlib.Core.Bool.{Bool, true, false}
 use mathlib.Core.Option.{Option}
 use mathlib.Core.List.{List, [], _∷_, _++_, map, map-append, append-nil}
 use native.Mathlib.Omega.{arith}
 use native.Mathlib.Numerals.{add-one}
 use lib.ListN.{length, take, drop, set, getD, length-take, length-drop, length-map, drop-of-length-le, List·getD-map, List·getD-eq-default}
-use lib.Seq.{getD-take, drop-cons, set-getD, take-suc-set, take-set-lt, take-all, set-out}
-use lib.Dec.{ltb, leb, eqb}
+use lib.Seq.{getD-take, drop-cons, take-suc-set, take-set-lt, take-all, set-out}
+use lib.Dec.{eqb}
 use borrow.Author.Tests.{lt-ltb, le-ltb}
-use Rattle.rules.specs.Basics.{if_then_else_, Result, accept, refuse, _>>=_, unless}
+use Rattle.rules.specs.Basics.{Result, accept, refuse, _>>=_}
 use Rattle.rules.specs.Values.{Context, Pair, pair}
 use Rattle.rules.specs.Tables.{Track, Rule, Status, matches, statusOf}
 use Rattle.rules.specs.Tables as t

@@ -6,7 +6,7 @@ use mathlib.Core.Option.{Option, none, some, Option·getD}
 use mathlib.Core.List.{List, [], _∷_, map}
 use lib.Dec.{eqb}
 use lib.ListN.{length, take, drop, set, getD}
-use Rattle.rules.specs.Basics.{if_then_else_, Result, accept, refuse, unless, _>>=_}
+use Rattle.rules.specs.Basics.{if_then_else_, Result, accept, unless, _>>=_}
 use Rattle.rules.specs.Values as v
 use Rattle.rules.specs.Tables as t
 use Rattle.rules.specs.KeyLoop as key

@@ -19,7 +19,7 @@ ghost use lib.ListN.{length, take};
 ghost use Rattle.rules.specs.Basics.{every, accept, unless};
 ghost use Rattle.rules.specs.Tables as t;
 ghost use Rattle.keyparts.specs.View.{fourOf, classesOf};
-ghost use Rattle.keypairs.specs.View.{actionsBy, wholeActions, entryBy, entryOf, wholeEntry, classBy, ruleBy, modesOf, rulesOf, wholeTables, packedBy};
+ghost use Rattle.keypairs.specs.View.{wholeActions, entryBy, entryOf, wholeEntry, classBy, ruleBy, modesOf, rulesOf, wholeTables, packedBy};
 
 pub struct ClassEntry {
     pub class: u16,

@@ -1,15 +1,14 @@
 -- Words that are copied: a turn of the loop; and three tables that were copied one behind the other are the whole array, so each
 -- stands where it is looked for.
-use Prim.Native.Nat.{ℕ, _+_, _%_, _<_, _≤_}
-use mathlib.Core.Path.{_≡_, refl, sym, ap, _∙_}
-use mathlib.Core.List.{List, [], _∷_, _++_, append-assoc, append-nil}
+use Prim.Native.Nat.{ℕ, _+_, _<_, _≤_}
+use mathlib.Core.Path.{_≡_, ap, _∙_}
+use mathlib.Core.List.{List, [], _++_, append-assoc, append-nil}
 use native.Mathlib.Omega.{arith}
 use native.Mathlib.Numerals.{add-one}
-use lib.ListN.{length, take, drop, set, getD, replicate, length-drop, length-take, length-append, drop-of-length-le, List·getD-append}
+use lib.ListN.{length, take, drop, set, getD, length-drop, length-take, length-append, drop-of-length-le, List·getD-append}
 use lib.Seq.{getD-drop, getD-take, paste, paste-suc, take-at, drop-at, take-all}
 use borrow.Author.Tests.{le-ltb}
 use Rattle.keyparts.specs.View.{copied, sizesIn, classWords, modeWords, ruleWords}
-use Rattle.keyparts.specs.declared.tables.Sizes.{Sizes}
 
 -- a turn of a copying loop
 pub paste-turn : {A : Type 0} (d s : List A) (at from i : ℕ) (z : A) (o : List A) → o ≡ paste d at (drop from s) i

@@ -10,7 +10,7 @@ use lib.ListN.{length, take, getD}
 use borrow.Author.Tests.{lt-ltb, le-ltb, eq-eqb, eqb-true, ltb-false, leb-true, leb-false}
 use lib.Seq.{take-all}
 use Rattle.rules.specs.Basics.{if_then_else_}
-use Rattle.rules.specs.Values.{Event, Key, Class, Any, Fallthrough, sameEvent, Step}
+use Rattle.rules.specs.Values.{Key, Class, Any, Fallthrough, sameEvent, Step}
 use Rattle.rules.specs.Graph.{isEdge, Empty, Holds}
 use Rattle.rules.proofs.Tests.{and-l, and-r, both-ways, event-is, event-same}
 use native.Mathlib.Numerals.{add-one}

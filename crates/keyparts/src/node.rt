@@ -10,7 +10,7 @@ ghost use Prim.Native.Nat.{_<_, _/_, _%_, min};
 ghost use Rattle.rules.specs.Values as v;
 ghost use Rattle.rules.specs.Graph as g;
 ghost use Rattle.rules.specs.Calls.{holdsAction};
-ghost use Rattle.keyparts.specs.View.{maybeOf, optOf, fourOf, stepOf, stepAt, actionOf, actionAt, nodeOf, nodesOf, graphBy, nodeIn};
+ghost use Rattle.keyparts.specs.View.{maybeOf, optOf, stepOf, stepAt, actionOf, actionAt, nodeOf, nodesOf, graphBy, nodeIn};
 
 // What a node does. The step of `Step` stands beside it in the node, since an enum here holds no array.
 pub enum NodeAction {

@@ -3,8 +3,8 @@
 use Prim.Native.Nat.{ℕ, zero, suc, _+_, _-_, _≤_, _<_}
 use native.Mathlib.Omega.{arith}
 use native.Mathlib.Nat.{zero-add}
-use mathlib.Core.Path.{_≡_, refl, sym, ap, _∙_, subst}
-use mathlib.Core.List.{List, [], _∷_, _++_}
+use mathlib.Core.Path.{_≡_, refl, sym, ap, _∙_}
+use mathlib.Core.List.{List, [], _++_}
 use lib.Dec.{leb}
 use lib.ListN.{length, take, drop, replicate, length-append}
 use borrow.Author.Tests.{le-leb, lt-leb}
@@ -13,7 +13,7 @@ use Rattle.rules.specs.Values.{Pair, noContext}
 use Rattle.rules.specs.Numbers.{number}
 use Rattle.rules.specs.Tables.{Tables}
 use Rattle.rules.specs.Graph.{Graph}
-use Rattle.rules.specs.KeyLoop.{Navigator, KeyResult, inputKey, freshShared, noTracker}
+use Rattle.rules.specs.KeyLoop.{Navigator, inputKey, freshShared, noTracker}
 use Rattle.rules.specs.KeyLoop as key
 use Rattle.rules.specs.Calls.{graphKind, graphNavigator, fresh, key-call}
 use Rattle.rules.specs.Run.{readKeys, pairBytes, emptied, playKeys}
@@ -22,10 +22,9 @@ use Rattle.keyloop.specs.declared.key.InputKeyResult.{InputKeyResult}
 use Rattle.keyparts.specs.View.{outcome}
 use Rattle.keypairs.specs.View.{pairsOf, stateOf, trackerOf, blocks}
 use Rattle.keyloop.specs.View.{keyOf}
-use Rattle.mapfile.specs.declared.play.RunResult.{RunResult}
 use Rattle.mapfile.specs.declared.play.RunResult.the-variants.{Wrote, Refused}
 use Rattle.mapfile.specs.View.{laid, machineBy, ranOf, Ends}
-use Rattle.mapfile.proofs.Writing.{laid-laid, length-laid}
+use Rattle.mapfile.proofs.Writing.{laid-laid}
 use Rattle.mapfile.proofs.PairBytes.{pairs-append}
 use Rattle.mapparts.proofs.KeyBytes.{key-first, keys-none, key-bad}
 

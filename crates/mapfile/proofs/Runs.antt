@@ -1,9 +1,9 @@
 -- A run: the map, then the keys, then the playing; and what is answered to C.
 use Prim.Native.Nat.{ℕ, _+_, _*_, _≤_, min}
 use native.Mathlib.Omega.{arith}
-use native.Mathlib.Nat.{zero-add, min-eq-left, min-eq-right}
-use mathlib.Core.Path.{_≡_, refl, sym, ap, ap₂, _∙_, subst}
-use mathlib.Core.List.{List, [], _∷_, _++_, append-nil}
+use native.Mathlib.Nat.{zero-add}
+use mathlib.Core.Path.{_≡_, refl, sym, ap, ap₂, _∙_}
+use mathlib.Core.List.{List, [], _++_, append-nil}
 use lib.ListN.{length, drop, replicate, drop-of-length-le}
 use Rattle.rules.specs.Basics.{Result, accept, refuse, _>>=_}
 use Rattle.rules.specs.Values.{Pair}
@@ -14,7 +14,7 @@ use Rattle.keyparts.specs.declared.answer.Answer.{Answer}
 use Rattle.keyparts.specs.declared.answer.Answer.the-variants.{Accepted, Refused as RefusedMap}
 use Rattle.keyparts.specs.View.{resultBy}
 use Rattle.mapfile.specs.declared.play.RunResult.the-variants.{Wrote, Refused}
-use Rattle.mapfile.specs.View.{laid, ranOf, Ends}
+use Rattle.mapfile.specs.View.{laid, Ends}
 use Rattle.mapfile.proofs.Playing.{ends-refused}
 
 -- ---- the order of the work

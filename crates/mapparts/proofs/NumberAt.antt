@@ -1,16 +1,14 @@
 -- A number at a place of the bytes: the rules' reading of what is left from there goes by the first three bytes.
-use Prim.Native.Nat.{ℕ, suc, _+_, _-_, _*_, _≤_, _<_}
+use Prim.Native.Nat.{ℕ, _+_, _-_, _*_, _≤_, _<_}
 use native.Mathlib.Omega.{arith}
 use native.Mathlib.Numerals.{add-one}
-use mathlib.Core.Path.{_≡_, refl, sym, ap, _∙_}
-use mathlib.Core.Bool.{Bool, true, false, not, _&&_}
+use mathlib.Core.Path.{_≡_, sym, ap, _∙_}
 use mathlib.Core.Logic.{_⊎_, inl, inr}
-use mathlib.Core.List.{List, [], _∷_}
-use lib.Dec.{leb, eqb}
+use mathlib.Core.List.{List, _∷_}
 use lib.ListN.{length, drop, getD, drop-of-length-le}
 use lib.Seq.{drop-cons}
 use borrow.Author.Tests.{lt-leb, le-leb, ne-eqb, eq-eqb}
-use Rattle.rules.specs.Basics.{Result, accept, refuse, unless}
+use Rattle.rules.specs.Basics.{accept, refuse}
 use Rattle.rules.specs.Numbers.{number, numberUpTo}
 use Rattle.rules.proofs.Numbers.{number-none, number-one, number-one-short, number-two, number-two-short, number-three, number-long, side}
 

@@ -1,7 +1,6 @@
 -- Parts, steps and the tables' entries: rows of numbers and lists, each read from where the one before it ended. A
 -- continuation `after-..` is what the rules' reader still has to read then.
 use Prim.Native.Nat.{ℕ}
-use mathlib.Core.Bool.{Bool}
 use mathlib.Core.Option.{Option}
 use mathlib.Core.List.{List}
 use lib.Dec.{eqb, leb}

@@ -1,9 +1,8 @@
 // A number as bytes: groups of seven bits, lowest first, 0x80 set on all but the last, in the shortest form.
 ghost use mathlib.Core.Path.{_≡_};
-ghost use mathlib.Core.List.{_++_};
-ghost use Prim.Native.Nat.{_+_, _≤_, _<_};
-ghost use lib.ListN.{length, take, drop};
-ghost use Rattle.rules.specs.Numbers.{number, bytesOf};
+ghost use Prim.Native.Nat.{_+_, _<_};
+ghost use lib.ListN.{drop};
+ghost use Rattle.rules.specs.Numbers.{number};
 ghost use Rattle.mapparts.specs.View.{readOf};
 
 // What stands at a place of the bytes: a number and the place after it, or no number, which is refusal 9.

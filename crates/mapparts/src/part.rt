@@ -4,8 +4,6 @@ use keyparts::event::EdgeEvent;
 use keyparts::event::EdgeRepeat;
 use keyparts::path::EdgePath;
 use keyparts::path::EdgePathPart;
-ghost use mathlib.Core.Path.{_≡_};
-ghost use Prim.Native.Nat.{_≤_};
 ghost use Rattle.rules.specs.Values.{mostParts};
 ghost use Rattle.rules.specs.MapFile.{readPart, listOf};
 ghost use Rattle.keyparts.specs.View.{repeatOf, eventOf, partOf, wholePath};

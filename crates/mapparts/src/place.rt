@@ -2,7 +2,6 @@
 // what is made of several numbers is read in a row, with no test between them.
 use crate::number;
 use crate::number::Read;
-ghost use mathlib.Core.Path.{_≡_};
 ghost use Prim.Native.Nat.{_≤_, _<_};
 ghost use lib.Dec.{leb, ltb};
 ghost use Rattle.rules.specs.Numbers.{number};

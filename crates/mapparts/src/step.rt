@@ -2,7 +2,6 @@
 use crate::list;
 use crate::place::FilePlace;
 use keyparts::step::Step;
-ghost use mathlib.Core.Path.{_≡_};
 ghost use Rattle.rules.specs.MapFile.{readStep};
 ghost use Rattle.keyparts.specs.View.{wholeStep};
 ghost use Rattle.mapparts.specs.View.{placeOf, Reads};

@@ -11,10 +11,10 @@ use keyparts::tables::Sizes;
 use keyparts::tables::TableWords;
 ghost use mathlib.Core.Path.{_≡_};
 ghost use mathlib.Core.List.{[], _∷_};
-ghost use Prim.Native.Nat.{_≤_, _<_};
+ghost use Prim.Native.Nat.{_<_};
 ghost use Rattle.rules.specs.Values.{mostClasses, modeCount, mostRules};
 ghost use Rattle.rules.specs.MapFile.{listOf, readClass, readMode, readRule, readTables};
-ghost use Rattle.keyparts.specs.View.{fourOf, classAt, classesOf};
+ghost use Rattle.keyparts.specs.View.{classAt, classesOf};
 ghost use Rattle.keypairs.specs.View.{ruleOf, rulesOf, entryOf, modesOf, tablesIn};
 ghost use Rattle.mapparts.specs.View.{placeOf, Reads};
 

@@ -2,20 +2,20 @@
 -- follow from document 01 and the Rust's code by hand; the theorems hold by computing them.
 use Prim.Native.Nat.{ℕ}
 use mathlib.Core.Path.{_≡_, refl}
-use mathlib.Core.Bool.{Bool, true, false}
-use mathlib.Core.Option.{Option, none, some}
+use mathlib.Core.Bool.{true, false}
+use mathlib.Core.Option.{none, some}
 use mathlib.Core.List.{List, [], _∷_, _++_, map}
 use lib.ListN.{replicate}
 use Rattle.rules.specs.Basics.{Result, accept, refuse, open-Basics}
-use Rattle.rules.specs.Values.{Event, Key, Class, Any, Fallthrough, Repeat, Once, Min, Max, Part, Step, pair, open-Values}
-use Rattle.rules.specs.Tables.{ClassEntry, ModeEntry, noEntry, Rule, Tables, open-Tables}
+use Rattle.rules.specs.Values.{Key, Class, Any, Fallthrough, Min, Step, pair, open-Values}
+use Rattle.rules.specs.Tables.{noEntry, Tables, open-Tables}
 use Rattle.rules.specs.Graph.{open-Graph}
 use Rattle.rules.specs.KeyLoop.{open-KeyLoop}
-use Rattle.rules.specs.Calls.{Call, Open, Map, Prefix, Press, Pop, Repeats, Reset, Answer, Accepted, Refused, Popped, Nothing, Pressed, PressRefused, open-Calls}
-use Rattle.rules.specs.Numbers.{number, bytesOf, open-Numbers}
+use Rattle.rules.specs.Calls.{Open, Map, Prefix, Pop, Repeats, Reset, Accepted, Refused, Nothing, PressRefused, open-Calls}
+use Rattle.rules.specs.Numbers.{number, open-Numbers}
 use Rattle.rules.specs.MapFile.{readMap, open-MapFile}
 use Rattle.rules.specs.Run.{run, codeOf, outputOf, keyplay, open-Run}
-use Rattle.rules.proofs.Table.{Tried, _⇒_, once, one, two, does, key, rounds, gives, a, b, j, q, r, digits, tracking, doubles, Row, row, tryAll, stepHeld, outcome}
+use Rattle.rules.proofs.Table.{_⇒_, once, one, two, does, key, rounds, gives, a, b, j, q, r, digits, tracking, doubles, Row, row, tryAll, stepHeld, outcome}
 
 -- ---- runs of calls
 

@@ -2,19 +2,19 @@
 -- A row is a list of calls on the fresh graph machine with no tables, each beside the answer that it must get.
 use Prim.Native.Nat.{ℕ}
 use mathlib.Core.Path.{_≡_, refl}
-use mathlib.Core.Bool.{Bool, true, false}
+use mathlib.Core.Bool.{false}
 use mathlib.Core.Option.{Option, none, some}
 use mathlib.Core.List.{List, [], _∷_, _++_, map}
 use lib.ListN.{replicate}
-use Rattle.rules.specs.Basics.{Result, accept, refuse, open-Basics}
-use Rattle.rules.specs.Values.{Event, Key, Class, Any, Fallthrough, Repeat, Once, Min, Max, Part, Step, Pair, pair, open-Values}
-use Rattle.rules.specs.Tables.{ClassEntry, Rule, Tables, noTables, open-Tables}
+use Rattle.rules.specs.Basics.{open-Basics}
+use Rattle.rules.specs.Values.{Event, Key, Class, Fallthrough, Once, Min, Part, Step, pair, open-Values}
+use Rattle.rules.specs.Tables.{Tables, noTables, open-Tables}
 use Rattle.rules.specs.Graph.{NodeAction, Empty, Root, Holds, getNode, open-Graph}
 use Rattle.rules.specs.KeyLoop.{open-KeyLoop}
-use Rattle.rules.specs.Calls.{Call, Open, Map, Prefix, Press, Pop, Repeats, Reset, Answer, Accepted, Refused, Popped, Nothing, Pressed, PressRefused, Machine, fresh, call, graphKind, open-Calls}
+use Rattle.rules.specs.Calls.{Call, Open, Map, Prefix, Press, Pop, Repeats, Answer, Accepted, Refused, Popped, Nothing, Pressed, PressRefused, Machine, fresh, call, graphKind, open-Calls}
 use Rattle.rules.specs.Numbers.{open-Numbers}
 use Rattle.rules.specs.MapFile.{open-MapFile}
-use Rattle.rules.specs.Run.{run, codeOf, keyplay, open-Run}
+use Rattle.rules.specs.Run.{keyplay, open-Run}
 
 -- ---- the words of a row
 

@@ -1,20 +1,20 @@
 -- Both loops carry `Held`: what is to come of the key is what `loop` makes of the stack, the state and the rounds at hand, and
 -- stack and trail weigh at most 130. An arm of the match is one law of proofs/Loop.antt, and both measures are the rounds left.
-use Prim.Native.Nat.{ℕ, zero, suc, _≤_, _<_, _-_, _+_, _/_, min}
+use Prim.Native.Nat.{ℕ, _≤_, _<_, _-_, _+_}
 use mathlib.Core.Path.{_≡_, refl, sym, ap, _∙_}
-use mathlib.Core.List.{List, [], _∷_, _++_}
+use mathlib.Core.List.{[], _∷_}
 use native.Mathlib.Omega.{arith}
 use lib.ListN.{length, take, drop, getD, set, replicate, length-set, length-take}
 use borrow.Author.Needs.{needs}
 use Rattle.rules.specs.Basics.{Result}
-use Rattle.rules.specs.KeyLoop.{State, KeyResult, loop, inputKey}
+use Rattle.rules.specs.KeyLoop.{State, loop, inputKey}
 use Rattle.keyparts.specs.View.{outcome, stepOf, edgesOf, edgeWords, graphIn}
 use Rattle.keypairs.specs.View.{tablesIn, stateOf}
 use Rattle.keypairs.proofs.Lists.{outcome-ok, outcome-no}
 use Rattle.keyloop.specs.declared.turn.InputResult.{InputResult}
 use Rattle.keyloop.specs.View.{linkNavigator, resultBy}
 use Rattle.keyloop.proofs.Lists.{take-min}
-use Rattle.keyloop.proofs.Stack.{weight, weight-twice, drop-put}
+use Rattle.keyloop.proofs.Stack.{weight-twice, drop-put}
 use Rattle.keyloop.proofs.Navigators.{step-same, unmapped-same}
 use Rattle.keyloop.proofs.Loop.{Round, Held, Lens, lens-zero, take-more, back-none, back-some, held-start, held-pop, held-done, held-from, held-anew, held-room, held-out, met-again, met-clear, met-consumed, met-more, met-full, met-big, met-unmapped, met-unmapped-refused, met-step, met-step-refused, met-retry, met-retry-refused}
 use Rattle.keyloop.proofs.key.input_key_or_scratch.Statement.{statement}

@@ -1,8 +1,8 @@
 -- The loop pastes the trail from its second key on; the key in hand goes behind it, at the place below the old top.
-use Prim.Native.Nat.{_≤_, _<_, _-_, _+_}
-use mathlib.Core.Path.{_≡_, refl, sym, ap, _∙_}
+use Prim.Native.Nat.{_≤_, _-_}
+use mathlib.Core.Path.{_≡_}
 use native.Mathlib.Omega.{arith}
-use lib.ListN.{length, take, drop, getD, length-set}
+use lib.ListN.{length, drop, length-set}
 use lib.Seq.{paste, paste-zero}
 use Rattle.keyparts.proofs.Copies.{paste-turn}
 use Rattle.keyloop.proofs.Stack.{back-length, back-is}

@@ -1,5 +1,5 @@
 -- The arms and tests are those of the definition.
-use mathlib.Core.Path.{_≡_, refl, sym, _∙_}
+use mathlib.Core.Path.{sym, _∙_}
 use Rattle.keyparts.specs.View.{nodeOf, actionOf, stepOf, graphBy, edgesOf, edgeWords}
 use Rattle.keyloop.proofs.Rounds.{arrive-empty, arrive-root, arrive-step, arrive-more, arrive-unmapped}
 use borrow.Author.Needs.{needs}

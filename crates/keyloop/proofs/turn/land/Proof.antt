@@ -1,5 +1,4 @@
 -- The arms are those of the definition.
-use mathlib.Core.Path.{_≡_, refl}
 use Rattle.keyparts.specs.View.{nodeOf, actionOf, stepOf}
 use Rattle.keyloop.proofs.Rounds.{land-empty, land-root, land-step}
 use borrow.Author.Needs.{needs}

@@ -1,5 +1,4 @@
 -- One test, on whether the overriding number is 0.
-use mathlib.Core.Path.{_≡_, refl}
 use borrow.Author.Tests.{eq-eqb, ne-eqb}
 use Rattle.keypairs.proofs.context.chosen.Statement.{statement}
 use Rattle.keypairs.proofs.context.chosen.Tie as tie

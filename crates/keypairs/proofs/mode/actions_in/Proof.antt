@@ -1,5 +1,4 @@
 -- The four digits of the word, of which the count takes the first.
-use mathlib.Core.Path.{_≡_, refl}
 use borrow.Author.Needs.{needs}
 use Rattle.keypairs.proofs.mode.actions_in.Statement.{statement}
 use Rattle.keypairs.proofs.mode.actions_in.Tie as tie

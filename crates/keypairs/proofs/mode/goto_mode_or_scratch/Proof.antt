@@ -1,6 +1,5 @@
 -- One `take` gives the context of all the pushes of the enter list, and the place is the mode's root.
-use mathlib.Core.Path.{_≡_, refl, sym, ap, _∙_}
-use Rattle.keyparts.specs.View.{outcome}
+use mathlib.Core.Path.{refl, sym, _∙_}
 use Rattle.keypairs.specs.View.{tablesIn, entryBy, contextOf, pairsOf, trackersOf}
 use Rattle.keypairs.proofs.Lists.{outcome-ok, outcome-no}
 use Rattle.keypairs.proofs.Modes.{goto-is}

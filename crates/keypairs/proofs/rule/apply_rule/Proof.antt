@@ -1,12 +1,11 @@
 -- A rule that matches lends the block of its sequence to `track`, which comes back in its place; another changes nothing.
 use Prim.Native.Nat.{_+_, _-_, _*_}
 use native.Mathlib.Omega.{arith}
-use lib.ListN.{length}
-use mathlib.Core.Path.{_≡_, refl, sym, ap, _∙_}
-use Rattle.rules.specs.Tables.{Rule, matches, statusOf}
+use mathlib.Core.Path.{_≡_, refl, _∙_}
+use Rattle.rules.specs.Tables.{matches}
 use Rattle.rules.specs.KeyLoop.{track}
-use Rattle.keypairs.specs.View.{pairOf, trackersOf, trackerOf, ruleOf, ruleBy, statusBy}
-use Rattle.keypairs.proofs.Sequences.{rule-in, rule-out, block, block-long}
+use Rattle.keypairs.specs.View.{trackersOf, ruleBy, statusBy}
+use Rattle.keypairs.proofs.Sequences.{rule-in, rule-out, block-long}
 use Rattle.keyparts.specs.View.{outcome}
 use borrow.Author.Needs.{needs}
 use Rattle.keypairs.proofs.rule.apply_rule.Statement.{statement}

@@ -1,8 +1,8 @@
 -- After i turns all rules come to what the rules from i on come to.
-use Prim.Native.Nat.{ℕ, _≤_, _<_, _-_, _+_, min}
+use Prim.Native.Nat.{_<_, _-_, min}
 use mathlib.Core.Path.{_≡_, refl, sym, ap, _∙_}
 use native.Mathlib.Omega.{arith}
-use lib.ListN.{length, drop, getD}
+use lib.ListN.{length, drop}
 use borrow.Author.Needs.{needs}
 use Rattle.rules.specs.Tables.{Rule}
 use Rattle.rules.specs.KeyLoop.{applyRule, applyRules}

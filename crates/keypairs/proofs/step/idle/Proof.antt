@@ -1,5 +1,4 @@
 -- One test and a match.
-use mathlib.Core.Path.{_≡_, refl}
 use borrow.Author.Tests.{eq-eqb, ne-eqb}
 use borrow.Author.Needs.{needs}
 use Rattle.keypairs.proofs.step.idle.Statement.{statement}

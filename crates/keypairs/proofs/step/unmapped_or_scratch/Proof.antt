@@ -1,5 +1,5 @@
 -- The node's mode tells the entry, whose list is given and whose next mode is entered.
-use mathlib.Core.Path.{_≡_, refl, sym, ap, _∙_}
+use mathlib.Core.Path.{ap}
 use Rattle.rules.specs.Graph.{Node}
 use Rattle.rules.specs.Calls.{graphNavigator}
 use Rattle.keyparts.specs.View.{nodeOf, nodesOf, graphBy, headWords, actWords}

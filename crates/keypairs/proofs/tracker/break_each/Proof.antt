@@ -1,6 +1,6 @@
 -- After i turns the first i sequences are broken and the others as they were.
-use Prim.Native.Nat.{ℕ, _≤_, _<_, _-_, _+_, _*_}
-use mathlib.Core.Path.{_≡_, refl, sym, ap, _∙_}
+use Prim.Native.Nat.{_≤_, _-_, _+_, _*_}
+use mathlib.Core.Path.{_≡_, refl, sym, _∙_}
 use mathlib.Core.List.{_++_, map}
 use native.Mathlib.Omega.{arith}
 use lib.ListN.{length, take, drop}

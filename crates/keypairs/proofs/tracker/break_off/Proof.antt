@@ -1,6 +1,4 @@
 -- The head keeps its count and gets its mark.
-use mathlib.Core.Path.{_≡_, refl, _∙_}
-use Rattle.keypairs.specs.View.{trackerOf}
 use Rattle.keypairs.proofs.Sequences.{block-broken}
 use borrow.Author.Needs.{needs}
 use Rattle.keypairs.proofs.tracker.break_off.Statement.{statement}

@@ -1,5 +1,4 @@
 -- The arms are the clauses of `track`; each of the first four writes the block at once.
-use mathlib.Core.Path.{_≡_, refl}
 use Rattle.keypairs.proofs.Sequences.{track-atom, track-break, track-ignore, track-restart}
 use Rattle.keyparts.specs.View.{outcome}
 use borrow.Author.Needs.{needs}

@@ -1,5 +1,5 @@
 -- The head tells whether the sequence is broken and whether it is full.
-use mathlib.Core.Path.{_≡_, refl}
+use mathlib.Core.Path.{refl}
 use Rattle.keypairs.proofs.Sequences.{track-anew, track-more, track-full}
 use Rattle.keyparts.specs.View.{outcome}
 use borrow.Author.Needs.{needs}

@@ -1,9 +1,9 @@
 -- After i turns i words are pasted; where they do not fit, nothing is.
-use Prim.Native.Nat.{ℕ, _≤_, _<_, _-_, _+_}
-use mathlib.Core.Path.{_≡_, refl, sym, ap, _∙_}
+use Prim.Native.Nat.{_≤_, _-_, _+_}
+use mathlib.Core.Path.{_≡_, refl, sym, _∙_}
 use native.Mathlib.Omega.{arith}
 use lib.ListN.{length, drop, length-set}
-use lib.Seq.{paste, paste-zero, length-paste}
+use lib.Seq.{paste, paste-zero}
 use borrow.Author.Needs.{needs}
 use borrow.Author.Tests.{ltb-false}
 use Rattle.keyparts.specs.View.{copied}

@@ -1,7 +1,7 @@
 -- The loop: the first place is i and the first place from i on. A turn passes two words; one may be left at the end.
 use lib.ListN.{take, drop}
 use Prim.Native.Nat.{_≤_, _-_, _+_}
-use mathlib.Core.Path.{_≡_, sym, _∙_}
+use mathlib.Core.Path.{_≡_, sym}
 use native.Mathlib.Nat.{zero-add}
 use native.Mathlib.Omega.{arith}
 use borrow.Author.Tests.{eq-eqb, ne-eqb}

@@ -1,6 +1,5 @@
 -- By the definition, and the rest by arithmetic.
 use native.Mathlib.Omega.{arith}
-use mathlib.Core.Path.{refl}
 use borrow.Author.Needs.{needs}
 use Rattle.keyparts.specs.View.{chainOf}
 use Rattle.keyparts.proofs.number.chain_of.Statement.{statement}

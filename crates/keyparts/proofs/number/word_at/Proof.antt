@@ -1,5 +1,5 @@
 -- Past the end the default is read.
-use mathlib.Core.Path.{_≡_, refl, sym}
+use mathlib.Core.Path.{sym}
 use lib.ListN.{List·getD-eq-default}
 use borrow.Author.Needs.{needs}
 use Rattle.keyparts.proofs.number.word_at.Statement.{statement}

@@ -1,6 +1,5 @@
 -- The tables, the count and the bindings are read in a row from the fresh graph, and then nothing may be left. A map that is
 -- refused hands back the fresh graph and no tables.
-use Prim.Native.Nat.{ℕ}
 use mathlib.Core.Path.{_≡_, _∙_, ap}
 use lib.ListN.{drop}
 use Rattle.rules.specs.Tables.{Tables}

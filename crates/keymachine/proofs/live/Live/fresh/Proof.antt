@@ -1,5 +1,4 @@
 -- Words that are 0 are no pair, eight trackers with nothing in them, and no key on the trail.
-use mathlib.Core.Path.{_≡_, refl}
 use Rattle.rules.specs.Values.{noContext}
 use Rattle.rules.specs.KeyLoop.{noTracker, freshShared}
 use Rattle.rules.specs.Calls.{fresh, graphNavigator}

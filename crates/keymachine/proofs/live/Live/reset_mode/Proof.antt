@@ -1,5 +1,5 @@
 -- Breaking all sequences and entering mode 0 is `resetMode`; the trail is not touched.
-use mathlib.Core.Path.{_≡_, refl}
+use mathlib.Core.Path.{_≡_}
 use lib.ListN.{length, take}
 use Rattle.keyparts.specs.View.{outcome}
 use Rattle.keypairs.specs.View.{stateOf, tablesIn, contextOf, pairsOf, trackersOf}

@@ -1,8 +1,8 @@
 -- The roots alone, and words that are 0, which are no entry.
-use mathlib.Core.Path.{_≡_, refl, _∙_}
+use mathlib.Core.Path.{_∙_}
 use Rattle.rules.specs.Tables.{noTables}
 use Rattle.rules.specs.Calls.{fresh}
-use Rattle.keyparts.specs.View.{sizesIn, classWords, modeWords, ruleWords}
+use Rattle.keyparts.specs.View.{sizesIn}
 use Rattle.keypairs.specs.View.{tablesIn}
 use borrow.Author.Needs.{needs}
 use Rattle.keymachine.proofs.machine.ModalMachine.fresh.Statement.{statement}

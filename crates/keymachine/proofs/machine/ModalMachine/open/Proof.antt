@@ -1,5 +1,5 @@
 -- The words of valid tables are the tables, and the fresh machine over the fresh graph and them is the rules'.
-use mathlib.Core.Path.{_≡_, refl, _∙_}
+use mathlib.Core.Path.{refl, _∙_}
 use Rattle.rules.specs.Tables.{tablesValid}
 use Rattle.rules.specs.Calls.{fresh}
 use Rattle.keypairs.specs.View.{wholeTables, tablesIn}

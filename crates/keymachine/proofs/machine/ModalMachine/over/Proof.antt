@@ -4,7 +4,6 @@ use mathlib.Core.Path.{ap}
 use Rattle.keyparts.specs.View.{graphOf}
 use Rattle.keypairs.specs.View.{tablesIn}
 use Rattle.rules.specs.KeyLoop.{State}
-use Rattle.rules.specs.Calls.{Machine, graphKind}
 use borrow.Author.Needs.{needs}
 use Rattle.keymachine.proofs.machine.ModalMachine.over.Statement.{statement}
 use Rattle.keymachine.proofs.machine.ModalMachine.over.Tie as tie

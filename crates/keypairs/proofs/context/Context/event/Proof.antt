@@ -1,5 +1,4 @@
 -- The arms are the clauses of `hook`; the tests within Class come in the order of its one test.
-use mathlib.Core.Path.{_≡_, refl}
 use borrow.Author.Tests.{eq-eqb, ne-eqb, le-leb, lt-leb}
 use Rattle.rules.specs.Values.{hook}
 use borrow.Author.Needs.{needs}

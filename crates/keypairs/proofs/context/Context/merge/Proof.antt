@@ -1,5 +1,4 @@
 -- Each field is chosen as `merge` chooses it.
-use mathlib.Core.Path.{_≡_, refl}
 use Rattle.rules.specs.Values.{merge}
 use borrow.Author.Needs.{needs}
 use Rattle.keypairs.proofs.context.Context.merge.Statement.{statement}

@@ -1,5 +1,4 @@
 -- The arms are the clauses of `override`.
-use mathlib.Core.Path.{_≡_, refl}
 use Rattle.rules.specs.KeyLoop.{override}
 use borrow.Author.Needs.{needs}
 use Rattle.keypairs.proofs.pair.Pair.overridden.Statement.{statement}

@@ -1,5 +1,4 @@
 -- The tests come in the order of the definition.
-use mathlib.Core.Path.{_≡_, refl}
 use borrow.Author.Tests.{eq-eqb, ne-eqb, le-leb, lt-leb}
 use Rattle.rules.specs.Tables.{matches}
 use Rattle.keypairs.proofs.rule.Rule.matches.Statement.{statement}

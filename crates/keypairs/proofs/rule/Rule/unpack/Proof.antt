@@ -1,5 +1,4 @@
 -- The digits are read by the same divisions as in the view.
-use mathlib.Core.Path.{_≡_, refl}
 use Rattle.keypairs.specs.View.{ruleOf}
 use borrow.Author.Needs.{needs}
 use Rattle.keypairs.proofs.rule.Rule.unpack.Statement.{statement}

@@ -1,5 +1,4 @@
 -- The tests come in the order of the definition.
-use mathlib.Core.Path.{_≡_, refl}
 use borrow.Author.Tests.{lt-ltb, le-ltb, le-leb, lt-leb}
 use Rattle.rules.specs.Tables.{ruleValid}
 use Rattle.keypairs.proofs.rule.Rule.valid.Statement.{statement}

@@ -1,5 +1,4 @@
 -- The arms are the clauses of `setMark`.
-use mathlib.Core.Path.{_≡_, refl}
 use Rattle.rules.specs.KeyLoop.{setMark}
 use borrow.Author.Needs.{needs}
 use Rattle.keypairs.proofs.state.State.marked.Statement.{statement}

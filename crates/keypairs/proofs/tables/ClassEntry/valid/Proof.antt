@@ -1,5 +1,4 @@
 -- The tests come in the order of the definition.
-use mathlib.Core.Path.{_≡_, refl}
 use borrow.Author.Tests.{lt-ltb, le-ltb}
 use Rattle.rules.specs.Tables.{classValid}
 use Rattle.keypairs.proofs.tables.ClassEntry.valid.Statement.{statement}

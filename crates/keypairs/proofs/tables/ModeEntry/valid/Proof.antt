@@ -1,5 +1,5 @@
 -- The tests come in the order of the definition.
-use mathlib.Core.Path.{_≡_, refl, sym, _∙_}
+use mathlib.Core.Path.{sym, _∙_}
 use Rattle.rules.specs.Tables.{modeValid}
 use Rattle.keypairs.specs.View.{wholeEntry}
 use borrow.Author.Needs.{needs}

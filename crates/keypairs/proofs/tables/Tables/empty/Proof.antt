@@ -1,5 +1,5 @@
 -- Counts of 0 take no entries.
-use mathlib.Core.Path.{_≡_, refl}
+use mathlib.Core.Path.{refl}
 use Rattle.rules.specs.Tables.{noTables}
 use Rattle.keyparts.specs.View.{fit}
 use Rattle.keypairs.specs.View.{wholeTables}

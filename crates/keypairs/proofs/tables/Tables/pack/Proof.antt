@@ -1,6 +1,5 @@
 -- The tests come in the order of the definition; within its range a list is seen whole, and its words are its entries.
-use mathlib.Core.Path.{_≡_, refl, sym, ap, _∙_}
-use mathlib.Core.Bool.{true, false}
+use mathlib.Core.Path.{_≡_, sym, _∙_}
 use lib.ListN.{length}
 use borrow.Author.Tests.{not-true, not-false}
 use Rattle.keyparts.proofs.Ranges.{length-mapped}

@@ -1,16 +1,16 @@
 -- After i turns the first i entries are valid and the first i words are theirs.
 use Rattle.keypairs.specs.declared.tables.ClassEntry as raw
-use Prim.Native.Nat.{ℕ, _≤_, _<_, _-_, _+_}
+use Prim.Native.Nat.{_≤_, _<_, _-_}
 use mathlib.Core.Path.{_≡_, refl, sym, ap, _∙_}
-use mathlib.Core.Bool.{true, false}
+use mathlib.Core.Bool.{false}
 use mathlib.Core.List.{map}
 use native.Mathlib.Omega.{arith}
-use lib.ListN.{length, take, drop, set, length-set}
+use lib.ListN.{length, take, drop, length-set}
 use borrow.Author.Needs.{needs}
 use Rattle.rules.specs.Basics.{every}
 use Rattle.rules.specs.Tables.{classValid}
 use Rattle.keyparts.specs.View.{classAt}
-use Rattle.keypairs.specs.View.{classBy, ruleOf}
+use Rattle.keypairs.specs.View.{classBy}
 use Rattle.keyparts.proofs.Ranges.{length-mapped, view-count}
 use Rattle.keypairs.proofs.Packs.{never, every-on, every-stop, every-end, pack-on, pack-end, view-at}
 use Rattle.keypairs.proofs.tables.Tables.pack_classes.Statement.{statement}

@@ -1,5 +1,5 @@
 -- The words are tracked in place; refused, they are not taken over.
-use mathlib.Core.Path.{_≡_, refl, sym, ap, _∙_}
+use mathlib.Core.Path.{ap, _∙_}
 use Rattle.rules.specs.Values.{Pair}
 use Rattle.rules.specs.KeyLoop.{track}
 use Rattle.keypairs.specs.View.{trackerOf, statusBy}

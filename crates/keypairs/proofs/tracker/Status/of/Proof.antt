@@ -1,5 +1,4 @@
 -- The tests come in the order of the definition.
-use mathlib.Core.Path.{_≡_, refl}
 use borrow.Author.Tests.{eq-eqb, ne-eqb}
 use Rattle.rules.specs.Tables.{statusOf}
 use Rattle.keypairs.proofs.tracker.Status.of.Statement.{statement}

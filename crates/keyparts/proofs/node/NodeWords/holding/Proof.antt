@@ -1,5 +1,5 @@
 -- Each part of the step is below its place in the words, so the node that they stand for has it.
-use mathlib.Core.Path.{_≡_, _∙_}
+use mathlib.Core.Path.{_≡_}
 use Prim.Native.Nat.{_%_}
 use native.Mathlib.Omega.{arith}
 use lib.ListN.{length}

@@ -1,9 +1,9 @@
 -- The copies stand one behind the other, from the third word on to the end, and a size that fits 16 bits is the whole of its word.
 use Prim.Native.Nat.{ℕ, _%_, _<_}
-use mathlib.Core.Path.{_≡_, refl, ap, _∙_}
+use mathlib.Core.Path.{_≡_, refl, _∙_}
 use mathlib.Core.List.{List}
 use native.Mathlib.Omega.{arith}
-use lib.ListN.{length, set, getD, replicate}
+use lib.ListN.{length, set, replicate}
 use borrow.Author.Needs.{needs}
 use Rattle.keyparts.specs.View.{sizesIn}
 use Rattle.keyparts.specs.declared.tables.Sizes.{Sizes}
