@@ -4,9 +4,9 @@ use mathlib.Core.Path.{_≡_, sym, ap, _∙_}
 use mathlib.Core.List.{List}
 use Rattle.rules.specs.Calls.{Machine, graphKind, settled, Answer}
 use Rattle.rules.specs.MapFile.{readMap}
-use Rattle.keyparts.specs.declared.answer.Answer as parts
-use Rattle.keyparts.specs.declared.answer.Answer.the-variants.{Accepted, Refused}
-use Rattle.keyparts.specs.View.{resultBy}
+use Rattle.keyvalues.specs.declared.answer.Answer as parts
+use Rattle.keyvalues.specs.declared.answer.Answer.the-variants.{Accepted, Refused}
+use Rattle.keyvalues.specs.View.{resultBy}
 use Rattle.host.specs.Codes.{answerCode, coded, openMap}
 
 pub numbered : (m : Machine graphKind) (a : Answer) (n : ℕ) (y : Machine graphKind × Answer) → (m, a) ≡ y → n ≡ answerCode a → (m, n) ≡ coded y

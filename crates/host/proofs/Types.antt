@@ -10,16 +10,16 @@ use Rattle.lending.proofs.Data.{Data, Fine}
 use Rattle.lending.proofs.Spot.{Spot, Struct, data-of, field-of, _then_}
 use Rattle.keyparts.proofs.find.Found as Found
 use Rattle.keyparts.proofs.find.Found.Laws as Found′
-use Rattle.keyparts.proofs.answer.Answer as Answer
-use Rattle.keyparts.proofs.answer.Answer.Laws as Answer′
-use Rattle.keyparts.proofs.path.EdgePath as EdgePath
-use Rattle.keyparts.proofs.path.EdgePath.Laws as EdgePath′
-use Rattle.keyparts.proofs.step.Step as Step
-use Rattle.keyparts.proofs.step.Step.Laws as Step′
+use Rattle.keyvalues.proofs.answer.Answer as Answer
+use Rattle.keyvalues.proofs.answer.Answer.Laws as Answer′
+use Rattle.keyvalues.proofs.path.EdgePath as EdgePath
+use Rattle.keyvalues.proofs.path.EdgePath.Laws as EdgePath′
+use Rattle.keyvalues.proofs.step.Step as Step
+use Rattle.keyvalues.proofs.step.Step.Laws as Step′
 use Rattle.keyparts.proofs.graph.Counts as Counts
 use Rattle.keyparts.proofs.graph.Counts.Laws as Counts′
-use Rattle.keyparts.proofs.tables.TableWords as TableWords
-use Rattle.keyparts.proofs.tables.TableWords.Laws as TableWords′
+use Rattle.keyvalues.proofs.tables.TableWords as TableWords
+use Rattle.keyvalues.proofs.tables.TableWords.Laws as TableWords′
 use Rattle.keypairs.proofs.context.Override as Override
 use Rattle.keypairs.proofs.context.Override.Laws as Override′
 use Rattle.keypairs.proofs.tables.Tables as Tables

@@ -15,7 +15,8 @@ ghost use lib.ListN.{length};
 ghost use Rattle.rules.specs.Tables.{Tables};
 ghost use Rattle.rules.specs.Graph.{Graph as Bindings};
 ghost use Rattle.rules.specs.Calls.{graphKind, call, Press, Pop, Reset};
-ghost use Rattle.keyparts.specs.View.{answerOf, graphIn};
+ghost use Rattle.keyvalues.specs.View.{answerOf};
+ghost use Rattle.keyparts.specs.View.{graphIn};
 ghost use Rattle.keypairs.specs.View.{tablesIn};
 ghost use Rattle.keymachine.specs.View.{machineBy, machineOf, pressOf, popOf};
 ghost use Rattle.host.specs.Codes.{answerCode, coded, openMap};
@@ -33,7 +34,7 @@ pub struct CodedLive {
 }
 
 // 0, or the refusal's number.
-pub fn answer_code(a: Answer) -> u64
+fn answer_code(a: Answer) -> u64
     ensures { λ r. ⌜ r ≡ answerCode (answerOf a) ⌝ }
 {
     match a {
@@ -43,7 +44,7 @@ pub fn answer_code(a: Answer) -> u64
 }
 
 // Rounds × 32, and the refusal's number.
-pub fn pressed_code(p: Pressed) -> u64
+fn pressed_code(p: Pressed) -> u64
     ensures { λ r. ⌜ r ≡ answerCode (pressOf p) ⌝ }
 {
     match p {
@@ -53,7 +54,7 @@ pub fn pressed_code(p: Pressed) -> u64
 }
 
 // 0, or the pair's three numbers below a bit that says that there is one.
-pub fn waiting_code(w: Waiting) -> u64
+fn waiting_code(w: Waiting) -> u64
     ensures { λ r. ⌜ r ≡ answerCode (popOf w) ⌝ }
 {
     match w {

@@ -14,7 +14,8 @@ use keymachine::scanner::Scanner;
 use keymachine::tables::Tables;
 ghost use mathlib.Core.Path.{_≡_};
 ghost use Rattle.rules.specs.Calls.{graphKind, call, mode-call, Open, Map, Prefix, Press, Pop, Repeats, Reset, FindFits, HintFits};
-ghost use Rattle.keyparts.specs.View.{wholePath, wholeStep, chosenOf, foundOf, answerOf};
+ghost use Rattle.keyvalues.specs.View.{wholePath, wholeStep, chosenOf, answerOf};
+ghost use Rattle.keyparts.specs.View.{foundOf};
 ghost use Rattle.keypairs.specs.View.{overOf, wholeTables};
 ghost use Rattle.keymachine.specs.View.{machineOf, pressOf, popOf};
 

@@ -2,7 +2,7 @@
 use Prim.Native.Nat.{ℕ, zero, suc}
 use mathlib.Core.Path.{_≡_, refl, ap, _∙_}
 use Rattle.rules.specs.Basics.{Result, accept, refuse, _>>=_}
-use Rattle.keyparts.specs.View.{outcome}
+use Rattle.keyvalues.specs.View.{outcome}
 use Rattle.keygraph.specs.Making.{Leads, Makes}
 
 pub refused : {A : Type 0} (n : ℕ) (a : A) → (n ≡ 0 → ⊥) → outcome n a ≡ refuse n

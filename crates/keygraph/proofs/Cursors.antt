@@ -14,9 +14,10 @@ use Rattle.rules.specs.Values.{Event, Fallthrough, Min, Max, Part, Step}
 use Rattle.rules.specs.Graph.{Graph, Node, Cursor, cursor, NodeAction, Empty, addNode, addEdge, upsertNode, upsertAt, getEdge, settle, edgeBetween, edgeTo, nodeFor, addSimpleStep, addSimples, addOptionals, addMin, addMax, addRepeat, addIntermediate, actionOf, mapFall, mapPath, prefixLast, prefixPath}
 use Rattle.keygraph.specs.Making.{Leads, Makes, cameTo, cursorIn, edgesIn, settledAt, upsertedAt, upserted, paid, addTimes, addParts, minTo, minOn}
 use Rattle.keygraph.specs.declared.cursor.Cursor as C
-use Rattle.keyparts.specs.View.{eventAt, graphBy, edgesOf, nodesOf, edgeWords, headWords, actWords, outcome, graphIn, find, keyIs, reached, linkedPlace, linkedEnd, Indexed}
+use Rattle.keyvalues.specs.View.{eventAt, graphBy, nodesOf, outcome}
+use Rattle.keyparts.specs.View.{edgesOf, edgeWords, headWords, actWords, graphIn, find, keyIs, reached, linkedPlace, linkedEnd, Indexed}
 use Rattle.keyparts.specs.declared.graph.Counts.{Counts}
-use Rattle.keyparts.proofs.Words.{event-fall, take-min}
+use Rattle.keyvalues.proofs.Words.{event-fall, take-min}
 use Rattle.keyparts.proofs.Places.{edges-length}
 use Rattle.keyparts.proofs.Links.{reached-place, reached-end}
 use Rattle.keygraph.proofs.Binds.{then as next, with, bind-assoc, leads-as}

@@ -9,7 +9,8 @@ use Rattle.rules.specs.Basics.{if_then_else_, Result, accept, _>>=_}
 use Rattle.rules.specs.Values as v
 use Rattle.rules.specs.Graph as g
 use Rattle.keygraph.specs.declared.cursor.Cursor.{Cursor}
-use Rattle.keyparts.specs.View.{outcome, edgeWords, graphIn}
+use Rattle.keyvalues.specs.View.{outcome}
+use Rattle.keyparts.specs.View.{edgeWords, graphIn}
 
 -- y is what x comes to by f, and a refusal of x is kept
 pub record Leads {A B : Type 0} (x : Result A) (f : A → Result B) (y : Result B) : Type 0 where

@@ -3,11 +3,12 @@ use Prim.Native.Nat.{ℕ}
 use lib.ListN.{getD}
 use Rattle.rules.specs.Graph as g
 use Rattle.rules.specs.Calls as c
-use Rattle.keyparts.specs.View.{graphOf, answerOf}
-use Rattle.keyparts.specs.declared.path.EdgePath.{EdgePath}
-use Rattle.keyparts.specs.declared.path.EdgePathPart.{EdgePathPart}
-use Rattle.keyparts.specs.declared.event.EdgeRepeat.the-variants.{Once}
-use Rattle.keyparts.specs.declared.event.EdgeEvent.the-variants.{Key}
+use Rattle.keyvalues.specs.View.{answerOf}
+use Rattle.keyparts.specs.View.{graphOf}
+use Rattle.keyvalues.specs.declared.path.EdgePath.{EdgePath}
+use Rattle.keyvalues.specs.declared.path.EdgePathPart.{EdgePathPart}
+use Rattle.keyvalues.specs.declared.event.EdgeRepeat.the-variants.{Once}
+use Rattle.keyvalues.specs.declared.event.EdgeEvent.the-variants.{Key}
 use Rattle.keygraph.specs.declared.added.Added.{Added}
 
 -- ---- paths

@@ -1,9 +1,10 @@
 // What a call that adds leaves: in place, the counts beside the words that were lent; by value, a graph.
-use keyparts::answer::Answer;
 use keyparts::graph::Counts;
 use keyparts::graph::Graph;
+use keyvalues::answer::Answer;
 ghost use mathlib.Core.Path.{_≡_};
-ghost use Rattle.keyparts.specs.View.{graphIn, graphOf, settled, resultBy};
+ghost use Rattle.keyvalues.specs.View.{settled, resultBy};
+ghost use Rattle.keyparts.specs.View.{graphIn, graphOf};
 ghost use Rattle.keygraph.specs.View.{addedOf};
 
 // What a call in place leaves beside the words. Where the answer is a refusal, neither the words nor the counts are a graph's.

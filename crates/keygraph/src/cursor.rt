@@ -1,14 +1,14 @@
 // A cursor: where the making of a path stands. The graph's words are lent to each call, and the small state goes by value.
 // A cursor that is refused stays as it is, so that a chain of calls needs no test in between.
 use crate::added::AddResult;
-use keyparts::answer::Answer;
-use keyparts::event;
 use keyparts::graph::Counts;
 use keyparts::graph::Graph;
 use keyparts::layout;
-use keyparts::node::NodeWords;
-use keyparts::number;
-use keyparts::step::Maybe;
+use keyvalues::answer::Answer;
+use keyvalues::event;
+use keyvalues::node::NodeWords;
+use keyvalues::number;
+use keyvalues::step::Maybe;
 ghost use mathlib.Core.Path.{_≡_};
 ghost use mathlib.Core.List.{List};
 ghost use mathlib.Core.Bool.{false};
@@ -16,7 +16,8 @@ ghost use Prim.Native.Nat.{ℕ, _+_, _*_, _<_};
 ghost use lib.ListN.{length};
 ghost use Rattle.rules.specs.Basics as b;
 ghost use Rattle.rules.specs.Graph as g;
-ghost use Rattle.keyparts.specs.View.{eventAt, nodeIn, maybeOf, find, keyIs, Indexed, linkMore, graphIn, resultBy};
+ghost use Rattle.keyvalues.specs.View.{eventAt, nodeIn, maybeOf, resultBy};
+ghost use Rattle.keyparts.specs.View.{find, keyIs, Indexed, linkMore, graphIn};
 ghost use Rattle.keygraph.specs.Making.{Leads, Makes, cameTo, edgesIn, settledAt, upsertedAt, upserted, paid};
 
 // `prev` is the node come to, `owed` whether a Fallthrough edge is owed from there, and `refusal` the number of the

@@ -2,18 +2,19 @@
 // there, and would search all of them three times for each. An index costs as much to make as a few searches, so it is made
 // once for a loop, and an edge that the loop adds is linked as it goes in.
 use crate::cursor::Cursor;
-use keyparts::event;
 use keyparts::graph::Graph;
 use keyparts::index;
 use keyparts::index::Index;
 use keyparts::layout;
-use keyparts::node::NodeWords;
-use keyparts::number;
-use keyparts::step::Maybe;
+use keyvalues::event;
+use keyvalues::node::NodeWords;
+use keyvalues::number;
+use keyvalues::step::Maybe;
 ghost use mathlib.Core.Path.{_≡_};
 ghost use lib.ListN.{length};
 ghost use Rattle.rules.specs.Graph as g;
-ghost use Rattle.keyparts.specs.View.{eventAt, nodeIn, maybeOf, Indexed, linkMore};
+ghost use Rattle.keyvalues.specs.View.{eventAt, nodeIn, maybeOf};
+ghost use Rattle.keyparts.specs.View.{Indexed, linkMore};
 ghost use Rattle.keygraph.specs.Making.{Leads, cameTo, edgesIn, paid};
 
 impl Cursor {

@@ -3,16 +3,17 @@ use crate::added::AddResult;
 use crate::added::Added;
 use crate::cursor::Cursor;
 use crate::repeat;
-use keyparts::answer::Answer;
-use keyparts::event;
-use keyparts::event::EdgeRepeat;
 use keyparts::graph::Counts;
 use keyparts::graph::Graph;
-use keyparts::node::NodeWords;
-use keyparts::path::EdgePath;
-use keyparts::path::EdgePathPart;
-use keyparts::step::Maybe;
-use keyparts::step::Step;
+use keyvalues::answer::Answer;
+use keyvalues::event;
+use keyvalues::event::EdgeRepeat;
+use keyvalues::node::NodeWords;
+use keyvalues::path::EdgePath;
+use keyvalues::path::EdgePathPart;
+use keyvalues::step::Maybe;
+use keyvalues::step::Step;
+use keyvalues::tables::TableWords;
 ghost use mathlib.Core.Path.{_≡_};
 ghost use mathlib.Core.List.{[], _∷_};
 ghost use Prim.Native.Nat.{_<_};
@@ -20,7 +21,8 @@ ghost use lib.ListN.{length};
 ghost use Rattle.rules.specs.Basics as b;
 ghost use Rattle.rules.specs.Values as v;
 ghost use Rattle.rules.specs.Graph as g;
-ghost use Rattle.keyparts.specs.View.{eventAt, nodeIn, partOf, repeatOf, maybeOf, stepOf, pathOf, wholePath, wholeStep, graphIn, graphOf, settled, resultBy};
+ghost use Rattle.keyvalues.specs.View.{eventAt, nodeIn, partOf, repeatOf, maybeOf, stepOf, pathOf, wholePath, wholeStep, settled, resultBy};
+ghost use Rattle.keyparts.specs.View.{graphIn, graphOf};
 ghost use Rattle.keygraph.specs.View.{addedOf};
 ghost use Rattle.keygraph.specs.Making.{Leads, cameTo};
 
@@ -163,7 +165,7 @@ pub fn add_mapping_or_scratch(
     ensures { λ r. ⌜ length (now (words .exit)) ≡ 4128 ⌝ }
     ensures { λ r. ⌜ resultBy (r .answer) (graphIn (now (words .exit)) (r .counts)) ≡ b.unless (v.mapValid mode (wholePath path) (wholeStep step)) 1 (g.addMapping mode (wholePath path) (wholeStep step) (graphIn (now (words .entry)) counts)) ⌝ }
 {
-    if mode < Graph::ROOTS {
+    if mode < TableWords::MODES {
         if path.valid() {
             if step.valid() {
                 let c = Cursor::start(counts, mode);

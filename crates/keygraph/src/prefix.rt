@@ -3,15 +3,16 @@ use crate::added::AddResult;
 use crate::added::Added;
 use crate::cursor::Cursor;
 use crate::repeat;
-use keyparts::answer::Answer;
-use keyparts::event;
-use keyparts::event::EdgeRepeat;
 use keyparts::graph::Counts;
 use keyparts::graph::Graph;
-use keyparts::node::NodeWords;
-use keyparts::path::EdgePath;
-use keyparts::path::EdgePathPart;
-use keyparts::step::Step;
+use keyvalues::answer::Answer;
+use keyvalues::event;
+use keyvalues::event::EdgeRepeat;
+use keyvalues::node::NodeWords;
+use keyvalues::path::EdgePath;
+use keyvalues::path::EdgePathPart;
+use keyvalues::step::Step;
+use keyvalues::tables::TableWords;
 ghost use mathlib.Core.Path.{_≡_};
 ghost use mathlib.Core.List.{[], _∷_};
 ghost use mathlib.Core.Bool.{Bool, true, false, _&&_};
@@ -22,7 +23,8 @@ ghost use lib.ListN.{length};
 ghost use Rattle.rules.specs.Basics as b;
 ghost use Rattle.rules.specs.Values as v;
 ghost use Rattle.rules.specs.Graph as g;
-ghost use Rattle.keyparts.specs.View.{eventAt, nodeIn, partOf, repeatOf, stepOf, pathOf, wholePath, wholeStep, chosenOf, stepsValid, graphIn, graphOf, settled, resultBy};
+ghost use Rattle.keyvalues.specs.View.{eventAt, nodeIn, partOf, repeatOf, stepOf, pathOf, wholePath, wholeStep, chosenOf, stepsValid, settled, resultBy};
+ghost use Rattle.keyparts.specs.View.{graphIn, graphOf};
 ghost use Rattle.keygraph.specs.View.{addedOf};
 ghost use Rattle.keygraph.specs.Making.{Leads, cameTo};
 
@@ -225,7 +227,7 @@ pub fn add_prefix_or_scratch(
     ensures { λ r. ⌜ length (now (words .exit)) ≡ 4128 ⌝ }
     ensures { λ r. ⌜ resultBy (r .answer) (graphIn (now (words .exit)) (r .counts)) ≡ b.unless (v.prefixValid mode (wholePath path) (chosenOf chosen (wholeStep step))) 1 (g.addPrefix mode (wholePath path) (chosenOf chosen (wholeStep step)) (graphIn (now (words .entry)) counts)) ⌝ }
 {
-    if mode < Graph::ROOTS {
+    if mode < TableWords::MODES {
         if path.valid() {
             if prefix_step_valid(chosen, step) {
                 let c = Cursor::start(counts, mode);

@@ -1,13 +1,13 @@
 // Parts of a path in place: one step along an event, repeats, and the parts before the last.
 use crate::cursor::Cursor;
-use keyparts::event;
-use keyparts::event::EdgeRepeat;
 use keyparts::graph::Graph;
 use keyparts::layout;
-use keyparts::node::NodeWords;
-use keyparts::path::EdgePath;
-use keyparts::path::EdgePathPart;
-use keyparts::step::Maybe;
+use keyvalues::event;
+use keyvalues::event::EdgeRepeat;
+use keyvalues::node::NodeWords;
+use keyvalues::path::EdgePath;
+use keyvalues::path::EdgePathPart;
+use keyvalues::step::Maybe;
 ghost use mathlib.Core.Path.{_≡_};
 ghost use mathlib.Core.List.{map};
 ghost use mathlib.Core.Bool.{true, false};
@@ -15,7 +15,7 @@ ghost use Prim.Native.Nat.{_<_, _≤_};
 ghost use lib.ListN.{length, take};
 ghost use Rattle.rules.specs.Values as v;
 ghost use Rattle.rules.specs.Graph as g;
-ghost use Rattle.keyparts.specs.View.{eventAt, nodeIn, partOf, repeatOf, maybeOf};
+ghost use Rattle.keyvalues.specs.View.{eventAt, nodeIn, partOf, repeatOf, maybeOf};
 ghost use Rattle.keygraph.specs.View.{partAt};
 ghost use Rattle.keygraph.specs.Making.{Leads, cameTo, addTimes, addParts, minTo, minOn};
 

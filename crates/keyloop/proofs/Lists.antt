@@ -5,7 +5,7 @@ use mathlib.Core.List.{List, [], _∷_}
 use native.Mathlib.Omega.{arith}
 use lib.ListN.{length, take, drop}
 use lib.Seq.{take-nil}
-use Rattle.keyparts.proofs.Words.{take-min as take-capped}
+use Rattle.keyvalues.proofs.Words.{take-min as take-capped}
 
 -- a count above the capacity means the whole array
 pub take-min : {A : Type 0} (m k : ℕ) (l : List A) (n : ℕ) → length l ≡ k → n ≡ min m k → take n l ≡ take m l

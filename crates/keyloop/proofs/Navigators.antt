@@ -10,7 +10,8 @@ use Rattle.rules.specs.Tables.{ClassEntry}
 use Rattle.rules.specs.KeyLoop.{State, Turn, Navigator, gotoMode, unmapped, stepTo, step}
 use Rattle.rules.specs.Graph.{followEdge, getNode}
 use Rattle.rules.specs.Calls.{graphNavigator, turnBy}
-use Rattle.keyparts.specs.View.{nodesOf, reached, followLinks, edgeWords, headWords, actWords, graphIn, Indexed}
+use Rattle.keyvalues.specs.View.{nodesOf}
+use Rattle.keyparts.specs.View.{reached, followLinks, edgeWords, headWords, actWords, graphIn, Indexed}
 use Rattle.keyparts.proofs.Links.{reached-all, indexed-follow}
 use Rattle.keyparts.specs.declared.graph.Counts.{Counts}
 use Rattle.keyloop.specs.View.{linkNavigator}

@@ -8,7 +8,8 @@ use Rattle.rules.specs.Tables as t
 use Rattle.rules.specs.KeyLoop as key
 use Rattle.rules.specs.Calls as c
 use Rattle.rules.specs.Graph as g
-use Rattle.keyparts.specs.View.{outcome, stepOf, graphIn, reached, followLinks, edgeWords}
+use Rattle.keyvalues.specs.View.{outcome, stepOf}
+use Rattle.keyparts.specs.View.{graphIn, reached, followLinks, edgeWords}
 use Rattle.keyparts.specs.declared.graph.Counts.{Counts}
 use Rattle.keypairs.specs.declared.state.State.{State}
 use Rattle.keypairs.specs.View.{sharedOf, stateOf}

@@ -5,17 +5,18 @@ use keyparts::graph::Counts;
 use keyparts::graph::Graph;
 use keyparts::index::Index;
 use keyparts::layout;
-use keyparts::node::Node;
-use keyparts::node::NodeAction;
-use keyparts::step::Step;
-use keyparts::tables::TableWords;
+use keyvalues::node::Node;
+use keyvalues::node::NodeAction;
+use keyvalues::step::Step;
+use keyvalues::tables::TableWords;
 ghost use mathlib.Core.Path.{_≡_};
 ghost use mathlib.Core.List.{List};
 ghost use lib.ListN.{length};
 ghost use Rattle.rules.specs.Values as v;
 ghost use Rattle.rules.specs.Graph as g;
 ghost use Rattle.rules.specs.Calls as c;
-ghost use Rattle.keyparts.specs.View.{nodeOf, stepOf, edgesOf, classesIn, graphBy, graphIn, reached, followLinks, edgeWords};
+ghost use Rattle.keyvalues.specs.View.{nodeOf, stepOf, classesIn, graphBy};
+ghost use Rattle.keyparts.specs.View.{edgesOf, graphIn, reached, followLinks, edgeWords};
 ghost use Rattle.keyloop.specs.View.{resultBy, Turns};
 
 // The step of `RunStep` and `RetryAfter` stands beside the result, since an enum here holds no array.

@@ -13,8 +13,8 @@ use Rattle.rules.specs.Tables.{Tables, tablesValid}
 use Rattle.rules.specs.Graph.{Graph, addMapping, addPrefix}
 use Rattle.rules.specs.KeyLoop.{Tracker, State, at, withQueue, KeyResult, Input, inputKey, gotoMode, resetMode}
 use Rattle.rules.specs.Calls.{Machine, Answer, Accepted, Refused, Pressed, PressRefused, Popped, Nothing, withBindings, withState, withShared, fresh, open-with, settled, pressed, popped, map-call, prefix-call, key-call, reset-call, call, Open, Map, Prefix, Press, Pop, Reset, graphKind, graphNavigator}
-use Rattle.keyparts.specs.View as kg
-use Rattle.keyparts.specs.View.{outcome}
+use Rattle.keyvalues.specs.View as values
+use Rattle.keyvalues.specs.View.{outcome}
 use Rattle.keypairs.specs.View.{pairOf, pairsOf, broke, shared}
 use Rattle.keyloop.proofs.Lists.{drop-take, take-min}
 
@@ -36,20 +36,20 @@ not-opened s m t b e h em = ap (λ (x : Machine graphKind). (x, Refused 1)) em �
 
 -- ---- map and prefix
 
-bound : (s : Machine graphKind) (g : Graph) (a : Answer) (r : Result Graph) → _≡_ {A = Graph × Answer} (g, a) (kg.settled (s .bindings) r)
+bound : (s : Machine graphKind) (g : Graph) (a : Answer) (r : Result Graph) → _≡_ {A = Graph × Answer} (g, a) (values.settled (s .bindings) r)
     → (withBindings graphKind s g, a) ≡ settled graphKind s (r >>= λ b. accept (withBindings graphKind s b))
-unfolding kg.settled settled
+unfolding values.settled settled
 bound s g a (accept b) e = ap (λ (x : Graph × Answer). (withBindings graphKind s (x .0), x .1)) e
 bound s g a (refuse n) e = ap (λ (x : Graph × Answer). (withBindings graphKind s (x .0), x .1)) e
 
 pub mapped : (s : Machine graphKind) (g : Graph) (a : Answer) (mode : ℕ) (ps : List Part) (st : Step)
-    → _≡_ {A = Graph × Answer} (g, a) (kg.settled (s .bindings) (unless (mapValid mode ps st) 1 (addMapping mode ps st (s .bindings))))
+    → _≡_ {A = Graph × Answer} (g, a) (values.settled (s .bindings) (unless (mapValid mode ps st) 1 (addMapping mode ps st (s .bindings))))
     → (withBindings graphKind s g, a) ≡ call graphKind s (Map mode ps st)
 unfolding call map-call
 mapped s g a mode ps st e = bound s g a _ e
 
 pub prefixed : (s : Machine graphKind) (g : Graph) (a : Answer) (mode : ℕ) (ps : List Part) (st : Option Step)
-    → _≡_ {A = Graph × Answer} (g, a) (kg.settled (s .bindings) (unless (prefixValid mode ps st) 1 (addPrefix mode ps st (s .bindings))))
+    → _≡_ {A = Graph × Answer} (g, a) (values.settled (s .bindings) (unless (prefixValid mode ps st) 1 (addPrefix mode ps st (s .bindings))))
     → (withBindings graphKind s g, a) ≡ call graphKind s (Prefix mode ps st)
 unfolding call prefix-call
 prefixed s g a mode ps st e = bound s g a _ e

@@ -19,7 +19,8 @@ ghost use lib.ListN.{length};
 ghost use Rattle.rules.specs.Tables.{Tables};
 ghost use Rattle.rules.specs.Graph.{Graph as Bindings};
 ghost use Rattle.rules.specs.Calls.{graphKind, call, fresh, mode-call, Press, Pop, Repeats, Reset};
-ghost use Rattle.keyparts.specs.View.{answerOf, graphIn};
+ghost use Rattle.keyvalues.specs.View.{answerOf};
+ghost use Rattle.keyparts.specs.View.{graphIn};
 ghost use Rattle.keypairs.specs.View.{tablesIn, overOf};
 ghost use Rattle.keymachine.specs.View.{liveOf, machineBy, pressOf, popOf};
 

@@ -17,7 +17,8 @@ use keypairs::tables::Tables;
 ghost use mathlib.Core.Path.{_≡_};
 ghost use Rattle.rules.specs.Tables.{noTables};
 ghost use Rattle.rules.specs.Calls.{graphKind, call, fresh, withBindings, mode-call, Open, Map as Mapping, Prefix, Press, Pop, Repeats, Reset, FindFits, HintFits};
-ghost use Rattle.keyparts.specs.View.{wholePath, wholeStep, chosenOf, foundOf, answerOf, graphOf};
+ghost use Rattle.keyvalues.specs.View.{wholePath, wholeStep, chosenOf, answerOf};
+ghost use Rattle.keyparts.specs.View.{foundOf, graphOf};
 ghost use Rattle.keypairs.specs.View.{overOf, wholeTables, tablesIn};
 ghost use Rattle.keymachine.specs.View.{machineOf, pressOf, popOf};
 

@@ -6,7 +6,7 @@ use native.Mathlib.Omega.{arith}
 use native.Mathlib.Numerals.{add-one}
 use lib.ListN.{length, take, drop, set, getD, length-take, length-drop, length-map, length-append}
 use lib.Seq.{drop-drop, getD-take, getD-drop, drop-cons, take-suc, take-set-le, take-set-lt, drop-set-lt, drop-set-add, getD-at, set-at, take-at, drop-at, length-take-le, take-add}
-use Rattle.keyparts.specs.View.{outcome}
+use Rattle.keyvalues.specs.View.{outcome}
 use Rattle.keypairs.specs.View.{blocks}
 use Rattle.rules.specs.Basics.{accept, refuse}
 

@@ -16,7 +16,7 @@ use Rattle.rules.specs.Tables.{Tables, ModeEntry, noEntry, modeEntry}
 use Rattle.rules.specs.KeyLoop.{Tracker, State, at, pushAll, giveAll, gotoMode, unmapped, stepTo, step, orDefault, setMark}
 use Rattle.rules.specs.Graph.{Graph}
 use Rattle.rules.specs.Calls.{graphNavigator}
-use Rattle.keyparts.specs.View.{fourOf, optOf, outcome}
+use Rattle.keyvalues.specs.View.{fourOf, optOf, outcome}
 use Rattle.keypairs.specs.View.{blocks, entryOf, modesOf, shared, giveGoto}
 use Rattle.keypairs.proofs.Lists.{length-blocks, blocks-word, getD-mapped}
 

@@ -13,9 +13,9 @@ use Rattle.rules.specs.Basics.{every, accept, unless}
 use Rattle.rules.specs.Values.{isMode, isSequence}
 use Rattle.rules.specs.Tables.{ModeEntry, Rule, Tables, classValid, modeValid, ruleValid, tablesValid, noEntry}
 use Rattle.rules.proofs.Tests.{and-l, and-r}
-use Rattle.keyparts.specs.View.{fourOf, optOf, maybeOf, fit, classesOf, sizesIn, classWords, modeWords, ruleWords}
-use Rattle.keyparts.specs.declared.tables.Sizes.{Sizes}
-use Rattle.keyparts.proofs.Ranges.{take-map, fit-take, fit-length}
+use Rattle.keyvalues.specs.View.{fourOf, optOf, maybeOf, fit, classesOf, sizesIn, classWords, modeWords, ruleWords}
+use Rattle.keyvalues.specs.declared.tables.Sizes.{Sizes}
+use Rattle.keyvalues.proofs.Ranges.{take-map, fit-take, fit-length}
 use Rattle.keypairs.specs.declared.tables.ModeEntry as entry
 use Rattle.keypairs.specs.declared.tables.Tables as declared
 use Rattle.keypairs.specs.declared.rule.Rule as rule

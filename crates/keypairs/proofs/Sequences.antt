@@ -16,8 +16,8 @@ use Rattle.rules.specs.Tables.{Track, Rule, Status, matches, statusOf}
 use Rattle.rules.specs.Tables as t
 use Rattle.rules.specs.Calls as c
 use Rattle.rules.specs.KeyLoop.{Tracker, tracker, noTracker, track, override, fetch, applyRule, applyRules}
-use Rattle.keyparts.proofs.Finds.{map-set}
-use Rattle.keyparts.specs.View.{outcome, settled}
+use Rattle.keyvalues.proofs.Lists.{map-set}
+use Rattle.keyvalues.specs.View.{outcome, settled}
 use Rattle.keypairs.specs.View.{pairOf, pairsOf, trackerOf, trackersOf, fetchedAt, blocks, ruleOf, rulesOf, broke}
 use Rattle.keypairs.proofs.Lists.{map-more, map-at, map-long, length-blocks, getD-blocks, getD-mapped, blocks-part}
 

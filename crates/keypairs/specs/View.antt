@@ -12,7 +12,7 @@ use Rattle.rules.specs.Tables as t
 use Rattle.rules.specs.KeyLoop as key
 use Rattle.rules.specs.Calls as c
 use Rattle.rules.specs.Graph as g
-use Rattle.keyparts.specs.View.{fourOf, optOf, classesIn, sizesIn, modeWords, ruleWords, maybeOf, fit}
+use Rattle.keyvalues.specs.View.{fourOf, optOf, classesIn, sizesIn, modeWords, ruleWords, maybeOf, fit}
 use Rattle.keypairs.specs.declared.context.Context.{Context}
 use Rattle.keypairs.specs.declared.context.Override.{Override}
 use Rattle.keypairs.specs.declared.context.Override.the-variants.{Nothing, By}

@@ -1,9 +1,9 @@
 // The context that a key gathers on its way: a count from digits and a mark from Any.
-use keyparts::event::EdgeEvent;
+use keyvalues::event::EdgeEvent;
 ghost use mathlib.Core.Path.{_≡_};
 ghost use Prim.Native.Nat.{_+_, _-_, _*_, _≤_, min};
 ghost use Rattle.rules.specs.Values as v;
-ghost use Rattle.keyparts.specs.View.{eventOf};
+ghost use Rattle.keyvalues.specs.View.{eventOf};
 ghost use Rattle.keypairs.specs.View.{contextOf, chosenOf};
 
 #[repr(C)]

@@ -6,11 +6,11 @@ use crate::state::State;
 use crate::tables::Actions;
 use crate::tables::ModeEntry;
 use crate::tracker::SequenceTracker;
-use keyparts::node;
-use keyparts::number;
-use keyparts::step::Maybe;
-use keyparts::step::Step;
-use keyparts::tables::TableWords;
+use keyvalues::node;
+use keyvalues::number;
+use keyvalues::step::Maybe;
+use keyvalues::step::Step;
+use keyvalues::tables::TableWords;
 ghost use mathlib.Core.Path.{_≡_};
 ghost use mathlib.Core.List.{List};
 ghost use mathlib.Core.Option.{Option·getD};
@@ -20,7 +20,7 @@ ghost use Rattle.rules.specs.Tables as t;
 ghost use Rattle.rules.specs.KeyLoop as key;
 ghost use Rattle.rules.specs.Graph as g;
 ghost use Rattle.rules.specs.Calls.{graphNavigator};
-ghost use Rattle.keyparts.specs.View.{outcome, maybeOf, fourOf};
+ghost use Rattle.keyvalues.specs.View.{outcome, maybeOf, fourOf};
 ghost use Rattle.keypairs.specs.View.{entryBy, actionsBy, tablesIn, sharedOf, stateOf, giveGoto};
 
 // The number of a refusal, or 0 and the state that was come to.

@@ -1,7 +1,7 @@
 // A pair: an action with the context that it carries. Waiting and remembered pairs are kept as a word each.
 use crate::context::Context;
 use crate::context::Override;
-use keyparts::number;
+use keyvalues::number;
 ghost use mathlib.Core.Path.{_≡_};
 ghost use Rattle.rules.specs.Values as v;
 ghost use Rattle.rules.specs.KeyLoop.{override};

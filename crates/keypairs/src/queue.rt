@@ -4,16 +4,16 @@ use crate::pair::Pair;
 use crate::rule;
 use crate::tables::Actions;
 use crate::tracker::SequenceTracker;
-use keyparts::number;
-use keyparts::step::Step;
-use keyparts::tables::TableWords;
+use keyvalues::number;
+use keyvalues::step::Step;
+use keyvalues::tables::TableWords;
 ghost use mathlib.Core.Path.{_≡_};
 ghost use mathlib.Core.List.{List};
 ghost use Prim.Native.Nat.{ℕ, _<_};
 ghost use lib.ListN.{length, getD};
 ghost use Rattle.rules.specs.Values as v;
 ghost use Rattle.rules.specs.KeyLoop as key;
-ghost use Rattle.keyparts.specs.View.{outcome};
+ghost use Rattle.keyvalues.specs.View.{outcome};
 ghost use Rattle.keypairs.specs.View.{actionsBy, contextOf, pairBy, pairsOf, trackersOf, tablesIn, shared};
 
 // The number of a refusal, or 0 and how many pairs wait then.

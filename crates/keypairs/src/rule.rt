@@ -2,16 +2,15 @@
 use crate::tracker;
 use crate::tracker::SequenceTracker;
 use crate::tracker::Status;
-use keyparts::graph::Graph;
-use keyparts::number;
-use keyparts::tables::TableWords;
+use keyvalues::number;
+use keyvalues::tables::TableWords;
 ghost use mathlib.Core.Path.{_≡_};
 ghost use mathlib.Core.Bool.{true};
 ghost use Prim.Native.Nat.{_<_};
 ghost use lib.ListN.{length};
 ghost use Rattle.rules.specs.Tables.{matches, ruleValid};
 ghost use Rattle.rules.specs.KeyLoop.{applyRule, applyRules};
-ghost use Rattle.keyparts.specs.View.{outcome};
+ghost use Rattle.keyvalues.specs.View.{outcome};
 ghost use Rattle.keypairs.specs.View.{pairOf, trackersOf, ruleBy, ruleOf, tablesIn};
 
 // The rule tells what the actions from `low` to `high` do to a sequence, in one mode.
@@ -53,7 +52,7 @@ impl Rule {
     pub fn valid(self) -> bool
         ensures { λ r. ⌜ r ≡ ruleValid (ruleBy self) ⌝ }
     {
-        if self.mode < Graph::ROOTS {
+        if self.mode < TableWords::MODES {
             if self.low <= self.high {
                 if self.sequence < SequenceTracker::SEQUENCES {
                     return self.status < Rule::STATUSES;

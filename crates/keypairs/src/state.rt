@@ -1,12 +1,12 @@
 // What is small of a machine's state. The queue, the sequences and the trail are lent as arrays beside it.
 use crate::context::Context;
-use keyparts::step::Maybe;
+use keyvalues::step::Maybe;
 ghost use mathlib.Core.Path.{_≡_};
 ghost use mathlib.Core.List.{List};
 ghost use Prim.Native.Nat.{ℕ};
 ghost use Rattle.rules.specs.Tables as t;
 ghost use Rattle.rules.specs.KeyLoop as key;
-ghost use Rattle.keyparts.specs.View.{maybeOf};
+ghost use Rattle.keyvalues.specs.View.{maybeOf};
 ghost use Rattle.keypairs.specs.View.{sharedOf, stateOf};
 
 // The place is a node; `queued` words of the queue are waiting pairs, and `trailed` keys are on the trail.

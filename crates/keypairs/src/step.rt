@@ -7,9 +7,9 @@ use crate::tables::Actions;
 use crate::tracker::SequenceTracker;
 use keyparts::graph::Graph;
 use keyparts::layout;
-use keyparts::step::Maybe;
-use keyparts::step::Step;
-use keyparts::tables::TableWords;
+use keyvalues::step::Maybe;
+use keyvalues::step::Step;
+use keyvalues::tables::TableWords;
 ghost use mathlib.Core.Path.{_≡_};
 ghost use Rattle.rules.specs.Basics.{isThere};
 ghost use mathlib.Core.List.{List};
@@ -20,7 +20,8 @@ ghost use mathlib.Core.Bool.{_&&_, not};
 ghost use Rattle.rules.specs.KeyLoop as key;
 ghost use Rattle.rules.specs.Graph as g;
 ghost use Rattle.rules.specs.Calls.{graphNavigator};
-ghost use Rattle.keyparts.specs.View.{outcome, maybeOf, stepOf, nodesOf, headWords, actWords, graphBy};
+ghost use Rattle.keyvalues.specs.View.{outcome, maybeOf, stepOf, nodesOf, graphBy};
+ghost use Rattle.keyparts.specs.View.{headWords, actWords};
 ghost use Rattle.keypairs.specs.View.{tablesIn, stateOf};
 
 // The list of the node's mode is given, and its next mode entered; without one, the entered mode anew. Refused, the lent

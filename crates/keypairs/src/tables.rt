@@ -1,15 +1,15 @@
 // The tables that a machine is opened with. A caller fills them with any numbers, and `pack` tells whether they are in
 // range and makes the words that a machine keeps.
 use crate::rule::Rule;
-use keyparts::class;
-use keyparts::event::EdgeEvent;
-use keyparts::node;
-use keyparts::number;
-use keyparts::step;
-use keyparts::step::Maybe;
-use keyparts::step::Step;
-use keyparts::tables::Sizes;
-use keyparts::tables::TableWords;
+use keyvalues::class;
+use keyvalues::event::EdgeEvent;
+use keyvalues::node;
+use keyvalues::number;
+use keyvalues::step;
+use keyvalues::step::Maybe;
+use keyvalues::step::Step;
+use keyvalues::tables::Sizes;
+use keyvalues::tables::TableWords;
 ghost use mathlib.Core.Path.{_≡_};
 ghost use mathlib.Core.Bool.{true, false};
 ghost use mathlib.Core.List.{_∷_, [], map};
@@ -18,7 +18,7 @@ ghost use lib.Dec.{leb};
 ghost use lib.ListN.{length, take};
 ghost use Rattle.rules.specs.Basics.{every, accept, unless};
 ghost use Rattle.rules.specs.Tables as t;
-ghost use Rattle.keyparts.specs.View.{fourOf, classesOf};
+ghost use Rattle.keyvalues.specs.View.{fourOf, classesOf};
 ghost use Rattle.keypairs.specs.View.{wholeActions, entryBy, entryOf, wholeEntry, classBy, ruleBy, modesOf, rulesOf, wholeTables, packedBy};
 
 pub struct ClassEntry {

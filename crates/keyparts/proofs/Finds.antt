@@ -1,5 +1,5 @@
 -- Searches in words, and what they say of the edges.
-use Prim.Native.Nat.{ℕ, zero, suc, _+_, _*_, _%_, _<_, _≤_, min, zero-le}
+use Prim.Native.Nat.{ℕ, suc, _+_, _*_, _%_, _<_, _≤_, min, zero-le}
 use mathlib.Core.Path.{_≡_, refl, sym, ap, _∙_}
 use mathlib.Core.Bool.{Bool, true, false}
 use mathlib.Core.List.{List, [], _∷_, _++_, map, map-append}
@@ -13,13 +13,9 @@ use Rattle.rules.specs.Basics.{if_then_else_, accept, refuse}
 use Rattle.rules.specs.Values.{Event, Class, Fallthrough}
 use Rattle.rules.specs.Tables.{ClassEntry, memberships, holdsKey}
 use Rattle.rules.specs.Graph.{isEdge, Edge, endIn, replaceIn, putEdge, addEdge, getEdge, Node, followFirst, orElseBy, lastly, classEvents, Successor, FallsTo, NoSuccessor}
-use Rattle.keyparts.specs.View.{eventAt, edgeOf, keyIs, find, edgesOf, memberEnd, followMembers, classAt}
-use Rattle.keyparts.proofs.Words.{edge-key, edge-word}
-
-pub map-set : {A B : Type 0} (f : A → B) (l : List A) (i : ℕ) (a : A) → map f (set l i a) ≡ set (map f l) i (f a)
-map-set f [] i a = refl
-map-set f (x ∷ l) zero a = refl
-map-set f (x ∷ l) (suc i) a = ap (λ (r : List _). f x ∷ r) (map-set f l i a)
+use Rattle.keyvalues.specs.View.{eventAt, classAt}
+use Rattle.keyparts.specs.View.{edgeOf, keyIs, find, edgesOf, memberEnd, followMembers}
+use Rattle.keyparts.proofs.Edges.{edge-key, edge-word}
 
 -- ---- a search that goes up from 0: what is still to be searched lies at drop i of the first m
 module _ {A : Type 0} (p : A → Bool) (m : ℕ) (ys : List A) (d : A) (i n : ℕ) (e : n ≡ min m (length ys)) where
@@ -139,17 +135,6 @@ module _ (ns : List Node) (m : ℕ) (ys : List ℕ) (from code to n i w : ℕ) (
       let e = end-none from (eventAt code) (keyIs (from + code * 65536)) private-same (take m ys) l in
       rw (e, le-ltb (length (edgesOf ys m)) 2048 u)
 
--- ---- a loop over a view goes from an element to the next
-module _ {A B : Type 0} (f : A → B) (m : ℕ) (ys : List A) (d : A) (i n : ℕ) (e : n ≡ min m (length ys)) where
-  pub view-cons : i < n → map f (drop i (take m ys)) ≡ f (getD ys i d) ∷ map f (drop (i + 1) (take m ys))
-  view-cons h =
-      let l : i < length (take m ys) = omega (arith, length-take m ys) in
-      let k : i < m = omega arith in
-      rw (add-one, drop-cons (take m ys) i d l, getD-take m ys i d k)
-
-  pub view-nil : n ≤ i → map f (drop i (take m ys)) ≡ []
-  view-nil h = let l : length (take m ys) ≤ i = omega (arith, length-take m ys) in rw (drop-of-length-le (take m ys) l)
-
 -- ---- end_of
 module _ (ys : List ℕ) (m node code n i : ℕ) (hd : node < 65536) (hn : n ≡ min m (length ys)) (hi : i ≡ find (keyIs (node + code * 65536)) (take m ys)) where
   pub end-at : i < n → some (getD ys i 0 % 65536) ≡ endIn (edgesOf ys m) node (eventAt code)
@@ -191,14 +176,3 @@ module _ (end : Event → Option ℕ) where
           → followFirst end (classEvents ((if b then classAt w .class ∷ [] else []) ++ memberships cs key)) ≡ orElseBy (Class (w % 65536)) o (followMembers end key cs)
       pick true o h = rw h
       pick false o h = rw (← h)
-
--- the same for a list of numbers as it stands
-module _ (m : ℕ) (ys : List ℕ) (i n : ℕ) (e : n ≡ min m (length ys)) where
-  pub list-cons : i < n → drop i (take m ys) ≡ getD ys i 0 ∷ drop (i + 1) (take m ys)
-  list-cons h =
-      let l : i < length (take m ys) = omega (arith, length-take m ys) in
-      let k : i < m = omega arith in
-      rw (add-one, drop-cons (take m ys) i 0 l, getD-take m ys i 0 k)
-
-  pub list-nil : n ≤ i → drop i (take m ys) ≡ []
-  list-nil h = let l : length (take m ys) ≤ i = omega (arith, length-take m ys) in rw (drop-of-length-le (take m ys) l)

@@ -1,8 +1,5 @@
 -- Laws that belong to no one function.
-pub mod Words
+pub mod Edges
 pub mod Finds
-pub mod Nodes
-pub mod Ranges
 pub mod Links
 pub mod Places
-pub mod Copies

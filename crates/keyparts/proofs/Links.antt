@@ -16,9 +16,11 @@ use Rattle.rules.specs.Basics.{if_then_else_}
 use Rattle.rules.specs.Values.{Event}
 use Rattle.rules.specs.Tables.{ClassEntry}
 use Rattle.rules.specs.Graph.{isEdge, endIn, getEdge, followFirst, followEdge, eventsOf, orElseBy, lastly, Node}
-use Rattle.keyparts.specs.View.{eventAt, eventCode, edgeOf, graphBy, find, keyIs, reached, chainOf, placeOn, linkedPlace, endAt, linkedEnd, linkAt, followLinks, Indexed}
+use Rattle.keyvalues.specs.View.{eventAt, eventCode, graphBy}
+use Rattle.keyparts.specs.View.{edgeOf, find, keyIs, reached, chainOf, placeOn, linkedPlace, endAt, linkedEnd, linkAt, followLinks, Indexed}
 use Rattle.rules.proofs.Tests.{and-l, and-r, by-cases, event-is}
-use Rattle.keyparts.proofs.Words.{code-event, edge-key}
+use Rattle.keyvalues.proofs.Words.{code-event}
+use Rattle.keyparts.proofs.Edges.{edge-key}
 
 -- ---- the words that are reached
 

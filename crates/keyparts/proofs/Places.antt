@@ -13,11 +13,12 @@ use borrow.Author.Tests.{lt-ltb, le-ltb, eqb-true}
 use Rattle.rules.specs.Basics.{if_then_else_, accept, refuse}
 use Rattle.rules.specs.Graph.{Graph, addEdge, addNode, settle}
 use Rattle.keyparts.specs.declared.graph.Counts.{Counts}
-use Rattle.keyparts.specs.declared.node.NodeWords.{NodeWords}
-use Rattle.keyparts.specs.View.{eventAt, nodeAt, nodesOf, edgesOf, find, keyIs, edgeWords, headWords, actWords, graphFrom, graphIn, withEdge, withNode, linkAt, linkMore, Indexed}
+use Rattle.keyvalues.specs.declared.node.NodeWords.{NodeWords}
+use Rattle.keyvalues.specs.View.{eventAt, nodeAt, nodesOf}
+use Rattle.keyparts.specs.View.{edgesOf, find, keyIs, edgeWords, headWords, actWords, graphFrom, graphIn, withEdge, withNode, linkAt, linkMore, Indexed}
 use Rattle.keyparts.proofs.Links.{indexed-put, indexed-more}
 use Rattle.keyparts.proofs.Finds.{find-most, find-has, edge-replaced, edge-appended, edge-full}
-use Rattle.keyparts.proofs.Nodes.{node-added, node-full, settle-set, settle-out, settle-other}
+use Rattle.keyvalues.proofs.Nodes.{node-added, node-full, settle-set, settle-out, settle-other}
 
 module _ (ws : List ℕ) (hl : length ws ≡ 4128) where
   pub edges-length : length (edgeWords ws) ≡ 2048

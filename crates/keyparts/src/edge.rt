@@ -1,11 +1,12 @@
 // Edges: a word for each, with its end in the low 16 bits, then its start, then its event's code.
-use crate::number;
-use crate::step::Maybe;
+use keyvalues::number;
+use keyvalues::step::Maybe;
 ghost use mathlib.Core.Path.{_≡_};
 ghost use mathlib.Core.List.{List};
 ghost use lib.ListN.{take};
 ghost use Rattle.rules.specs.Graph as g;
-ghost use Rattle.keyparts.specs.View.{eventAt, edgesOf, graphBy, maybeOf, find, keyIs};
+ghost use Rattle.keyvalues.specs.View.{eventAt, graphBy, maybeOf};
+ghost use Rattle.keyparts.specs.View.{edgesOf, find, keyIs};
 
 // The place of the first of the first `count` words with this key in its upper 48 bits, or their number. Two words a turn:
 // this loop is most of what adding a binding costs.

@@ -1,14 +1,16 @@
 // Finding a node by its mode and an action of its step.
 use crate::graph::Graph;
-use crate::node;
-use crate::number;
+use keyvalues::node;
+use keyvalues::number;
+use keyvalues::tables::TableWords;
 ghost use mathlib.Core.Path.{_≡_};
 ghost use mathlib.Core.List.{List};
 ghost use Prim.Native.Nat.{ℕ};
 ghost use lib.ListN.{length};
 ghost use Rattle.rules.specs.Graph as g;
 ghost use Rattle.rules.specs.Calls.{HintFits, FindFits};
-ghost use Rattle.keyparts.specs.View.{nodesOf, graphBy, foundOf};
+ghost use Rattle.keyvalues.specs.View.{nodesOf, graphBy};
+ghost use Rattle.keyparts.specs.View.{foundOf};
 
 pub enum Found {
     Refused(u16),
@@ -26,7 +28,7 @@ pub(crate) fn find_node<'a>(
 ) -> Found
     ensures { λ r. ⌜ ((es : List g.Edge) → FindFits (graphBy (nodesOf (now (heads .entry)) (now (acts .entry)) count) es) mode action (foundOf r)) ⌝ }
 {
-    if Graph::ROOTS <= mode {
+    if TableWords::MODES <= mode {
         return Found::Refused(1);
     }
     let n = number::least(number::least_of(count, heads.len()), acts.len());

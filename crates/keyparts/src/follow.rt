@@ -1,16 +1,18 @@
 // Following: one round of a key at a node, by the links of an index. The events go in the rules' order, and the first that
 // has an edge is taken.
-use crate::class;
-use crate::event;
-use crate::event::EdgeEvent;
 use crate::index;
 use crate::index::Index;
-use crate::number;
-use crate::step::Maybe;
+use keyvalues::class;
+use keyvalues::event;
+use keyvalues::event::EdgeEvent;
+use keyvalues::number;
+use keyvalues::step::Maybe;
 ghost use mathlib.Core.Path.{_≡_};
 ghost use mathlib.Core.List.{[]};
-ghost use lib.ListN.{length};
-ghost use Rattle.keyparts.specs.View.{classesOf, followOf, maybeOf, reached, linkedEnd, followLinks, memberEnd, followMembers};
+ghost use Prim.Native.Nat.{_<_};
+ghost use lib.ListN.{length, getD};
+ghost use Rattle.keyvalues.specs.View.{classesOf, maybeOf};
+ghost use Rattle.keyparts.specs.View.{followOf, reached, linkedEnd, followLinks, memberEnd, followMembers};
 
 pub enum FollowResult {
     Successor(EdgeEvent, u16),
@@ -60,6 +62,14 @@ fn member_end<'a>(
     }
 }
 
+// The word of an entry, in table order.
+fn entry_at(classes: &[u64], i: usize) -> u64
+    requires { ⌜ i < length (now classes) ⌝ }
+    ensures { λ r. ⌜ r ≡ getD (now (classes .entry)) i 0 ⌝ }
+{
+    classes[i]
+}
+
 // The first membership of the key with a Class edge, and else the rest.
 fn follow_classes<'a>(
     edges: &'a [u64],
@@ -76,7 +86,7 @@ fn follow_classes<'a>(
     let n = number::least(entries, classes.len());
     let mut i = 0usize;
     while i < n {
-        let w = class::entry_at(classes, i);
+        let w = entry_at(classes, i);
         let of = number::low(w);
         let e = member_end(edges, count, links, node, key, w);
         match e {

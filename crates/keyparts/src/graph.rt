@@ -3,6 +3,7 @@
 use crate::find;
 use crate::find::Found;
 use crate::layout;
+use keyvalues::tables::TableWords;
 ghost use mathlib.Core.Path.{_≡_};
 ghost use Rattle.rules.specs.Graph as g;
 ghost use Rattle.rules.specs.Calls.{HintFits, FindFits};
@@ -22,8 +23,8 @@ pub struct Graph {
 }
 
 impl Graph {
-    // The mode roots, which always exist, and how many nodes may be made beside them.
-    pub const ROOTS: u16 = 16;
+    // The roots of the modes, which always exist, and how many nodes may be made beside them.
+    pub const ROOTS: u16 = TableWords::MODES;
 
     pub const MADE: u16 = 1024;
 

@@ -3,11 +3,13 @@
 // next on its chain, and behind the 2,048 links of the edges stand the links to the first edge of each chain. Every value
 // of the links leads somewhere, and the search ends on all of them.
 use crate::graph::Graph;
-use crate::number;
-use crate::step::Maybe;
+use keyvalues::number;
+use keyvalues::step::Maybe;
 ghost use mathlib.Core.Path.{_≡_};
+ghost use Prim.Native.Nat.{_<_};
 ghost use lib.ListN.{length};
-ghost use Rattle.keyparts.specs.View.{eventAt, maybeOf, reached, linkedPlace, linkedEnd, linkAt, Indexed};
+ghost use Rattle.keyvalues.specs.View.{eventAt, maybeOf};
+ghost use Rattle.keyparts.specs.View.{reached, chainOf, linkedPlace, linkedEnd, linkAt, Indexed};
 
 pub struct Index {
     pub links: [u16; Index::LINKS],
@@ -34,6 +36,13 @@ impl Index {
     }
 }
 
+// Which link leads to the first edge of the chain for the upper part of an edge's word.
+fn chain_of(key: u64) -> usize
+    ensures { λ r. ⌜ (r ≡ chainOf key) × (r < 2304) ⌝ }
+{
+    Graph::EDGES as usize + (((key / 65536 % 256 + key % 256) % 256) as usize)
+}
+
 // The edge at this place goes before the chain of its key.
 pub fn link(links: &mut [u16; Index::LINKS], place: usize, key: u64)
     requires { ⌜ length (now links) ≡ 2304 ⌝ }
@@ -42,7 +51,7 @@ pub fn link(links: &mut [u16; Index::LINKS], place: usize, key: u64)
     if Graph::EDGES as usize <= place {
         return;
     }
-    let chain = number::chain_of(key);
+    let chain = chain_of(key);
     links[place] = links[chain];
     links[chain] = place as u16;
 }
@@ -59,7 +68,7 @@ pub(crate) fn linked_place<'a>(
 {
     let n = number::least(number::least_of(count, Graph::EDGES as usize), edges.len());
     let all = &links[..];
-    let mut at = all[number::chain_of(key)];
+    let mut at = all[chain_of(key)];
     let mut left = Graph::EDGES;
     while 0 < left {
         let i = at as usize;

@@ -8,19 +8,20 @@ use crate::follow::FollowResult;
 use crate::graph::Graph;
 use crate::index;
 use crate::index::Index;
-use crate::node;
-use crate::node::Node;
-use crate::node::NodeWords;
-use crate::number;
-use crate::step::Maybe;
-use crate::tables::TableWords;
+use keyvalues::node;
+use keyvalues::node::Node;
+use keyvalues::node::NodeWords;
+use keyvalues::number;
+use keyvalues::step::Maybe;
+use keyvalues::tables::TableWords;
 ghost use mathlib.Core.Path.{_≡_};
 ghost use mathlib.Core.List.{List};
 ghost use lib.ListN.{length, take, set, getD};
 ghost use Rattle.rules.specs.Graph as g;
 ghost use Rattle.rules.specs.Calls.{FindFits};
 ghost use Rattle.keyparts.specs.declared.graph.Counts as k;
-ghost use Rattle.keyparts.specs.View.{eventAt, edgesOf, nodesOf, nodeOf, classesIn, followOf, followLinks, foundOf, graphBy, graphIn, withEdge, withNode, maybeOf, find, keyIs, edgeWords, headWords, actWords, reached, linkedPlace, linkedEnd, Indexed};
+ghost use Rattle.keyvalues.specs.View.{eventAt, nodesOf, nodeOf, classesIn, graphBy, maybeOf};
+ghost use Rattle.keyparts.specs.View.{edgesOf, followOf, followLinks, foundOf, graphIn, withEdge, withNode, find, keyIs, edgeWords, headWords, actWords, reached, linkedPlace, linkedEnd, Indexed};
 
 // Where the nodes' first and second words begin; the edges' words are in front.
 pub(crate) const HEADS: usize = Graph::EDGES as usize;

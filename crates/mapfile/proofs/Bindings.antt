@@ -15,9 +15,9 @@ use Rattle.rules.specs.Calls.{Machine, graphKind, fresh, withBindings, map-call
 use Rattle.rules.specs.Tables.{Tables, noTables}
 use Rattle.rules.specs.Numbers.{number}
 use Rattle.rules.specs.MapFile.{Reader, thenRead, lifted, such, upTo, listOf, readPart, readStep, bindBy, readBinding, readBindings, readTables, readMachine, atEnd, readMap}
-use Rattle.keyparts.specs.View.{resultBy, outcome, sizesIn}
-use Rattle.keyparts.specs.declared.answer.Answer.{Answer}
-use Rattle.keyparts.specs.declared.answer.Answer.the-variants.{Accepted, Refused}
+use Rattle.keyvalues.specs.View.{resultBy, outcome, sizesIn}
+use Rattle.keyvalues.specs.declared.answer.Answer.{Answer}
+use Rattle.keyvalues.specs.declared.answer.Answer.the-variants.{Accepted, Refused}
 use Rattle.mapparts.specs.declared.place.FilePlace.{FilePlace}
 use Rattle.keypairs.specs.View.{tablesIn}
 use Rattle.mapparts.specs.View.{placeOf, with, Reads}

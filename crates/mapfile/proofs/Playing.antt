@@ -19,7 +19,7 @@ use Rattle.rules.specs.Calls.{graphKind, graphNavigator, fresh, key-call}
 use Rattle.rules.specs.Run.{readKeys, pairBytes, emptied, playKeys}
 use Rattle.keypairs.specs.declared.state.State.{State}
 use Rattle.keyloop.specs.declared.key.InputKeyResult.{InputKeyResult}
-use Rattle.keyparts.specs.View.{outcome}
+use Rattle.keyvalues.specs.View.{outcome}
 use Rattle.keypairs.specs.View.{pairsOf, stateOf, trackerOf, blocks}
 use Rattle.keyloop.specs.View.{keyOf}
 use Rattle.mapfile.specs.declared.play.RunResult.the-variants.{Wrote, Refused}

@@ -10,9 +10,9 @@ use Rattle.rules.specs.Values.{Pair}
 use Rattle.rules.specs.Calls.{Machine, graphKind}
 use Rattle.rules.specs.MapFile.{readMap}
 use Rattle.rules.specs.Run.{readKeys, playKeys, pairBytes, run, codeOf, outputOf, answered}
-use Rattle.keyparts.specs.declared.answer.Answer.{Answer}
-use Rattle.keyparts.specs.declared.answer.Answer.the-variants.{Accepted, Refused as RefusedMap}
-use Rattle.keyparts.specs.View.{resultBy}
+use Rattle.keyvalues.specs.declared.answer.Answer.{Answer}
+use Rattle.keyvalues.specs.declared.answer.Answer.the-variants.{Accepted, Refused as RefusedMap}
+use Rattle.keyvalues.specs.View.{resultBy}
 use Rattle.mapfile.specs.declared.play.RunResult.the-variants.{Wrote, Refused}
 use Rattle.mapfile.specs.View.{laid, Ends}
 use Rattle.mapfile.proofs.Playing.{ends-refused}

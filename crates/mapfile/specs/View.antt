@@ -11,7 +11,8 @@ use Rattle.rules.specs.Run.{pairBytes}
 use Rattle.rules.specs.Graph.{Graph}
 use Rattle.rules.specs.KeyLoop.{State}
 use Rattle.rules.specs.Calls.{Machine, graphKind, fresh}
-use Rattle.keyparts.specs.View.{resultBy, graphOf}
+use Rattle.keyvalues.specs.View.{resultBy}
+use Rattle.keyparts.specs.View.{graphOf}
 use Rattle.keypairs.specs.View.{tablesIn}
 use Rattle.mapfile.specs.declared.bind.BindResult.{BindResult}
 use Rattle.mapfile.specs.declared.map.MapRead.{MapRead}

@@ -2,11 +2,12 @@
 // must not go on with them.
 use keygraph::mapping;
 use keygraph::prefix;
-use keyparts::answer::Answer;
 use keyparts::graph::Counts;
 use keyparts::graph::Graph;
-use keyparts::path::EdgePath;
-use keyparts::step::Step;
+use keyvalues::answer::Answer;
+use keyvalues::path::EdgePath;
+use keyvalues::step::Step;
+use keyvalues::tables::TableWords;
 use mapparts::part;
 use mapparts::place::FilePlace;
 use mapparts::step;
@@ -17,7 +18,8 @@ ghost use lib.ListN.{length, drop};
 ghost use Rattle.rules.specs.KeyLoop.{State};
 ghost use Rattle.rules.specs.Calls.{graphKind, map-call, prefix-call};
 ghost use Rattle.rules.specs.MapFile.{lifted, readBinding, readBindings};
-ghost use Rattle.keyparts.specs.View.{wholePath, wholeStep, chosenOf, graphIn};
+ghost use Rattle.keyvalues.specs.View.{wholePath, wholeStep, chosenOf};
+ghost use Rattle.keyparts.specs.View.{graphIn};
 ghost use Rattle.mapparts.specs.View.{placeOf};
 ghost use Rattle.mapfile.specs.View.{Comes, machineBy, boundOf};
 
@@ -102,7 +104,7 @@ pub(crate) fn read_binding_or_scratch(
     let from = FilePlace { at: at, refusal: 0 };
     let kind = from.up_to(s, 2);
     let a = kind.place;
-    let mode = a.below(s, Graph::ROOTS);
+    let mode = a.below(s, TableWords::MODES);
     let b = mode.place;
     let parts = part::read_path(s, b);
     let c = parts.place;

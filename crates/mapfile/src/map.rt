@@ -1,8 +1,8 @@
 // The map file.
 use crate::bind;
-use keyparts::answer::Answer;
 use keyparts::graph::Graph;
-use keyparts::tables::TableWords;
+use keyvalues::answer::Answer;
+use keyvalues::tables::TableWords;
 use mapparts::place::FilePlace;
 use mapparts::tables;
 ghost use mathlib.Core.Path.{_≡_};
@@ -11,8 +11,8 @@ ghost use lib.ListN.{drop};
 ghost use Rattle.rules.specs.Tables.{noTables};
 ghost use Rattle.rules.specs.Calls.{Machine, graphKind, fresh};
 ghost use Rattle.rules.specs.MapFile.{atEnd, readMap};
-ghost use Rattle.keyparts.specs.declared.answer.Answer.the-variants.{Refused};
-ghost use Rattle.keyparts.specs.View.{resultBy};
+ghost use Rattle.keyvalues.specs.declared.answer.Answer.the-variants.{Refused};
+ghost use Rattle.keyvalues.specs.View.{resultBy};
 ghost use Rattle.mapfile.specs.View.{mapOf};
 
 // The graph and the tables of a map. Refused, there is no binding and no table in them.

@@ -1,7 +1,7 @@
 // Writing pairs, each as three numbers.
 use crate::write;
 use keypairs::pair::Pair;
-use keyparts::number;
+use keyvalues::number;
 ghost use mathlib.Core.Path.{_≡_};
 ghost use Prim.Native.Nat.{_+_, _≤_};
 ghost use lib.ListN.{length};

@@ -12,8 +12,8 @@ use Rattle.rules.specs.Basics.{Result}
 use Rattle.rules.specs.Values.{Key, Class, Any, Fallthrough, Once, Min, Max, isRepeat, isClass}
 use Rattle.rules.specs.Numbers.{number}
 use Rattle.rules.specs.MapFile.{Reader, give, such, upTo, times, listOf, optional, optionalMark, readOptionalMode, repeatBy, eventBy}
-use Rattle.keyparts.specs.View.{fit}
-use Rattle.keyparts.proofs.Ranges.{take-map, fit-take}
+use Rattle.keyvalues.specs.View.{fit}
+use Rattle.keyvalues.proofs.Ranges.{take-map, fit-take}
 use Rattle.mapparts.specs.View.{Reads, readMark, readRepeat, readEvent}
 use Rattle.mapparts.proofs.Reading.{then, gives, gives-as, Left, left-more, left-none}
 

@@ -11,7 +11,7 @@ use Rattle.rules.specs.Basics.{Result, accept, refuse, _>>=_, unless}
 use Rattle.rules.specs.Numbers.{number}
 use Rattle.rules.specs.MapFile.{Reader, thenRead, give, such, times}
 use Rattle.mapparts.specs.declared.place.FilePlace.{FilePlace}
-use Rattle.keyparts.specs.View.{outcome}
+use Rattle.keyvalues.specs.View.{outcome}
 use Rattle.mapparts.specs.View.{placeOf, with, Reads}
 
 -- ---- one reader after another

@@ -9,8 +9,8 @@ use lib.ListN.{length, take, set}
 use Rattle.rules.specs.Basics.{Result}
 use Rattle.rules.specs.Tables.{ModeEntry}
 use Rattle.rules.specs.MapFile.{Reader, give, upTo, optional, readOptionalMode}
-use Rattle.keyparts.specs.View.{fit, fourOf, optOf}
-use Rattle.keyparts.proofs.Ranges.{fit-take}
+use Rattle.keyvalues.specs.View.{fit, fourOf, optOf}
+use Rattle.keyvalues.proofs.Ranges.{fit-take}
 use Rattle.keypairs.specs.View.{ruleOf, entryOf, blocks}
 use Rattle.keypairs.proofs.Lists.{length-blocks}
 use Rattle.mapparts.specs.View.{Reads}

@@ -9,7 +9,7 @@ use Rattle.rules.specs.Basics.{Result, accept, refuse, _>>=_}
 use Rattle.rules.specs.Values.{Event, Repeat}
 use Rattle.rules.specs.Numbers.{number}
 use Rattle.rules.specs.MapFile.{Reader, thenRead, give, upTo, optionalMark, repeatBy, eventBy}
-use Rattle.keyparts.specs.View.{outcome}
+use Rattle.keyvalues.specs.View.{outcome}
 use Rattle.mapparts.specs.declared.number.Read.{Read}
 use Rattle.mapparts.specs.declared.number.Read.the-variants.{Number, Bad}
 use Rattle.mapparts.specs.declared.place.FilePlace.{FilePlace}

@@ -1,14 +1,14 @@
 // Lists of actions, and what may be missing.
 use crate::place::FilePlace;
-use keyparts::graph::Graph;
-use keyparts::step::Maybe;
-use keyparts::step::Step;
+use keyvalues::step::Maybe;
+use keyvalues::step::Step;
+use keyvalues::tables::TableWords;
 ghost use mathlib.Core.Path.{_≡_};
 ghost use Prim.Native.Nat.{_≤_};
 ghost use lib.ListN.{length};
 ghost use Rattle.rules.specs.MapFile.{readActions, readOptionalMode};
 ghost use Rattle.rules.specs.Numbers.{number};
-ghost use Rattle.keyparts.specs.View.{fit, maybeOf};
+ghost use Rattle.keyvalues.specs.View.{fit, maybeOf};
 ghost use Rattle.mapparts.specs.View.{placeOf, Reads, readMark};
 
 // The first `count` actions are the list.
@@ -51,7 +51,7 @@ pub fn read_actions(s: &[u8], from: FilePlace) -> ActionsRead
 pub fn read_optional_mode(s: &[u8], from: FilePlace) -> MaybeRead
     ensures { λ r. ⌜ Reads (placeOf (now (s .entry)) from) readOptionalMode (maybeOf (r .value)) (placeOf (now (s .entry)) (r .place)) ⌝ }
 {
-    let n = from.up_to(s, Graph::ROOTS);
+    let n = from.up_to(s, TableWords::MODES);
     let c = n.place;
     let v = n.value;
     if v == 0 {

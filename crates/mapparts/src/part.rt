@@ -1,12 +1,12 @@
 // Paths: parts, each a repeat and an event.
 use crate::place::FilePlace;
-use keyparts::event::EdgeEvent;
-use keyparts::event::EdgeRepeat;
-use keyparts::path::EdgePath;
-use keyparts::path::EdgePathPart;
+use keyvalues::event::EdgeEvent;
+use keyvalues::event::EdgeRepeat;
+use keyvalues::path::EdgePath;
+use keyvalues::path::EdgePathPart;
 ghost use Rattle.rules.specs.Values.{mostParts};
 ghost use Rattle.rules.specs.MapFile.{readPart, listOf};
-ghost use Rattle.keyparts.specs.View.{repeatOf, eventOf, partOf, wholePath};
+ghost use Rattle.keyvalues.specs.View.{repeatOf, eventOf, partOf, wholePath};
 ghost use Rattle.mapparts.specs.View.{placeOf, Reads, readRepeat, readEvent};
 
 struct RepeatRead {

@@ -1,9 +1,9 @@
 // Steps.
 use crate::list;
 use crate::place::FilePlace;
-use keyparts::step::Step;
+use keyvalues::step::Step;
 ghost use Rattle.rules.specs.MapFile.{readStep};
-ghost use Rattle.keyparts.specs.View.{wholeStep};
+ghost use Rattle.keyvalues.specs.View.{wholeStep};
 ghost use Rattle.mapparts.specs.View.{placeOf, Reads};
 
 pub struct StepRead {

@@ -3,18 +3,17 @@ use crate::list;
 use crate::place::FilePlace;
 use keypairs::rule::Rule;
 use keypairs::tracker::SequenceTracker;
-use keyparts::class;
-use keyparts::event::EdgeEvent;
-use keyparts::graph::Graph;
-use keyparts::number;
-use keyparts::tables::Sizes;
-use keyparts::tables::TableWords;
+use keyvalues::class;
+use keyvalues::event::EdgeEvent;
+use keyvalues::number;
+use keyvalues::tables::Sizes;
+use keyvalues::tables::TableWords;
 ghost use mathlib.Core.Path.{_≡_};
 ghost use mathlib.Core.List.{[], _∷_};
 ghost use Prim.Native.Nat.{_<_};
 ghost use Rattle.rules.specs.Values.{mostClasses, modeCount, mostRules};
 ghost use Rattle.rules.specs.MapFile.{listOf, readClass, readMode, readRule, readTables};
-ghost use Rattle.keyparts.specs.View.{classAt, classesOf};
+ghost use Rattle.keyvalues.specs.View.{classAt, classesOf};
 ghost use Rattle.keypairs.specs.View.{ruleOf, rulesOf, entryOf, modesOf, tablesIn};
 ghost use Rattle.mapparts.specs.View.{placeOf, Reads};
 
@@ -81,7 +80,7 @@ fn read_class(s: &[u8], from: FilePlace) -> WordRead
 fn read_rule(s: &[u8], from: FilePlace) -> WordRead
     ensures { λ r. ⌜ Reads (placeOf (now (s .entry)) from) readRule (ruleOf (r .word)) (placeOf (now (s .entry)) (r .place)) ⌝ }
 {
-    let mode = from.below(s, Graph::ROOTS);
+    let mode = from.below(s, TableWords::MODES);
     let a = mode.place;
     let low = a.number(s);
     let b = low.place;
@@ -111,7 +110,7 @@ fn read_mode(s: &[u8], from: FilePlace) -> ModeRead
     let a = enter.place;
     let unmapped = list::read_actions(s, a);
     let b = unmapped.place;
-    let next = b.up_to(s, Graph::ROOTS);
+    let next = b.up_to(s, TableWords::MODES);
     let c = next.place;
     let first = enter.actions;
     let second = unmapped.actions;

@@ -1,5 +1,5 @@
 -- The live state is the call's, and the number is its answer's.
-use Rattle.keyparts.specs.View.{answerOf}
+use Rattle.keyvalues.specs.View.{answerOf}
 use Rattle.keypairs.specs.View.{tablesIn}
 use Rattle.keymachine.specs.View.{machineBy}
 use borrow.Author.Needs.{needs}

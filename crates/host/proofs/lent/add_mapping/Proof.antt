@@ -5,7 +5,8 @@ use Rattle.rules.specs.Calls.{graphKind, call, Map}
 use Rattle.rules.specs.Basics.{unless}
 use Rattle.rules.specs.Values.{mapValid}
 use Rattle.rules.specs.Graph.{addMapping}
-use Rattle.keyparts.specs.View.{graphOf, wholePath, wholeStep, answerOf, settled}
+use Rattle.keyvalues.specs.View.{wholePath, wholeStep, answerOf, settled}
+use Rattle.keyparts.specs.View.{graphOf}
 use Rattle.keymachine.specs.View.{machineOf}
 use Rattle.keymachine.proofs.Calls.{mapped}
 use denote.Triple.Spec.{tripleOf}

@@ -5,7 +5,8 @@ use Rattle.rules.specs.Calls.{graphKind, call, Prefix}
 use Rattle.rules.specs.Basics.{unless}
 use Rattle.rules.specs.Values.{prefixValid}
 use Rattle.rules.specs.Graph.{addPrefix}
-use Rattle.keyparts.specs.View.{graphOf, wholePath, wholeStep, chosenOf, answerOf, settled}
+use Rattle.keyvalues.specs.View.{wholePath, wholeStep, chosenOf, answerOf, settled}
+use Rattle.keyparts.specs.View.{graphOf}
 use Rattle.keymachine.specs.View.{machineOf}
 use Rattle.keymachine.proofs.Calls.{prefixed}
 use denote.Triple.Spec.{tripleOf}

@@ -4,7 +4,8 @@ use mathlib.Core.List.{[], _∷_}
 use Rattle.rules.specs.Tables.{Tables}
 use Rattle.rules.specs.Graph.{Graph}
 use Rattle.rules.specs.Calls.{graphKind, call, Repeats}
-use Rattle.keyparts.specs.View.{graphOf, answerOf}
+use Rattle.keyvalues.specs.View.{answerOf}
+use Rattle.keyparts.specs.View.{graphOf}
 use Rattle.keypairs.specs.View.{tablesIn, overOf}
 use Rattle.keymachine.specs.View.{machineBy, machineOf}
 use denote.Triple.Spec.{tripleOf}

@@ -3,7 +3,8 @@ use mathlib.Core.Path.{_≡_}
 use mathlib.Core.List.{[], _∷_}
 use Rattle.rules.specs.Graph.{Graph}
 use Rattle.rules.specs.Calls.{graphKind, call, Reset}
-use Rattle.keyparts.specs.View.{graphOf, answerOf}
+use Rattle.keyvalues.specs.View.{answerOf}
+use Rattle.keyparts.specs.View.{graphOf}
 use Rattle.keypairs.specs.View.{tablesIn}
 use Rattle.keymachine.specs.View.{machineBy, machineOf}
 use denote.Triple.Spec.{tripleOf}

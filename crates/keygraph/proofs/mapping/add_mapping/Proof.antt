@@ -1,6 +1,6 @@
 -- The call in place on the copies that are lent comes to the rules' call, and the graph after it is settled by that.
 use mathlib.Core.Path.{ap, _∙_}
-use Rattle.keyparts.specs.View.{settled}
+use Rattle.keyvalues.specs.View.{settled}
 use borrow.Author.Needs.{needs}
 use Rattle.keygraph.proofs.mapping.add_mapping.Statement.{statement}
 use Rattle.keygraph.proofs.mapping.add_mapping.Tie as tie

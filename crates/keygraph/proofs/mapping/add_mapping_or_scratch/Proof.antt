@@ -2,9 +2,10 @@
 -- chain from the root is `addMapping`; where one fails, the refusal is 1.
 use mathlib.Core.Path.{_≡_, sym, _∙_}
 use lib.ListN.{length}
-use Rattle.keyparts.specs.View.{pathOf, stepOf, wholePath, wholeStep, graphIn}
+use Rattle.keyvalues.specs.View.{pathOf, stepOf, wholePath, wholeStep}
+use Rattle.keyparts.specs.View.{graphIn}
 use Rattle.rules.specs.Graph.{addMapping, mapPath}
-use Rattle.keyparts.proofs.Ranges.{length-mapped, map-good, map-bad-mode, map-bad-path, map-bad-step}
+use Rattle.keyvalues.proofs.Ranges.{length-mapped, map-good, map-bad-mode, map-bad-path, map-bad-step}
 use Rattle.keygraph.proofs.Cursors.{call-done}
 use borrow.Author.Needs.{needs}
 use Rattle.keygraph.proofs.mapping.add_mapping_or_scratch.Statement.{statement}

@@ -2,10 +2,11 @@
 -- the chain from the root is `addPrefix`; where one fails, the refusal is 1.
 use mathlib.Core.Path.{_≡_, sym, _∙_}
 use lib.ListN.{length}
-use Rattle.keyparts.specs.View.{pathOf, stepOf, wholePath, wholeStep, chosenOf, graphIn}
+use Rattle.keyvalues.specs.View.{pathOf, stepOf, wholePath, wholeStep, chosenOf}
+use Rattle.keyparts.specs.View.{graphIn}
 use Rattle.rules.specs.Graph.{addPrefix, prefixPath}
 use mathlib.Core.Bool.{true}
-use Rattle.keyparts.proofs.Ranges.{length-mapped, prefix-good, prefix-bad-mode, prefix-bad-path, prefix-bad-step}
+use Rattle.keyvalues.proofs.Ranges.{length-mapped, prefix-good, prefix-bad-mode, prefix-bad-path, prefix-bad-step}
 use Rattle.keygraph.proofs.Cursors.{call-done}
 use borrow.Author.Needs.{needs}
 use Rattle.keygraph.proofs.prefix.add_prefix_or_scratch.Statement.{statement}

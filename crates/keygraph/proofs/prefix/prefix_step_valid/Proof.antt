@@ -1,5 +1,5 @@
 -- A step that is not there is valid.
-use Rattle.keyparts.specs.View.{chosenOf, stepsValid}
+use Rattle.keyvalues.specs.View.{chosenOf, stepsValid}
 use borrow.Author.Needs.{needs}
 use Rattle.keygraph.proofs.prefix.prefix_step_valid.Statement.{statement}
 use Rattle.keygraph.proofs.prefix.prefix_step_valid.Tie as tie

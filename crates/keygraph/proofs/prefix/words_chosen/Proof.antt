@@ -1,8 +1,8 @@
 -- By the flag: the words of a node with the step, or of an empty one, which is what `actionOf` says of the two.
 use Rattle.rules.specs.Graph.{actionOf}
-use Rattle.keyparts.specs.View.{chosenOf}
+use Rattle.keyvalues.specs.View.{chosenOf}
 use borrow.Author.Needs.{needs}
-use Rattle.keyparts.proofs.Words.{mode-fits}
+use Rattle.keyvalues.proofs.Words.{mode-fits}
 use Rattle.keygraph.proofs.prefix.words_chosen.Statement.{statement}
 use Rattle.keygraph.proofs.prefix.words_chosen.Tie as tie
 

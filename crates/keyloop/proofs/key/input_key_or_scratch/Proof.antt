@@ -8,7 +8,8 @@ use lib.ListN.{length, take, drop, getD, set, replicate, length-set, length-take
 use borrow.Author.Needs.{needs}
 use Rattle.rules.specs.Basics.{Result}
 use Rattle.rules.specs.KeyLoop.{State, loop, inputKey}
-use Rattle.keyparts.specs.View.{outcome, stepOf, edgesOf, edgeWords, graphIn}
+use Rattle.keyvalues.specs.View.{outcome, stepOf}
+use Rattle.keyparts.specs.View.{edgesOf, edgeWords, graphIn}
 use Rattle.keypairs.specs.View.{tablesIn, stateOf}
 use Rattle.keypairs.proofs.Lists.{outcome-ok, outcome-no}
 use Rattle.keyloop.specs.declared.turn.InputResult.{InputResult}

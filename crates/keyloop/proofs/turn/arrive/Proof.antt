@@ -1,6 +1,7 @@
 -- The arms and tests are those of the definition.
 use mathlib.Core.Path.{sym, _∙_}
-use Rattle.keyparts.specs.View.{nodeOf, actionOf, stepOf, graphBy, edgesOf, edgeWords}
+use Rattle.keyvalues.specs.View.{nodeOf, actionOf, stepOf, graphBy}
+use Rattle.keyparts.specs.View.{edgesOf, edgeWords}
 use Rattle.keyloop.proofs.Rounds.{arrive-empty, arrive-root, arrive-step, arrive-more, arrive-unmapped}
 use borrow.Author.Needs.{needs}
 use Rattle.keyloop.proofs.turn.arrive.Statement.{statement}

@@ -1,5 +1,5 @@
 -- The arms are those of the definition.
-use Rattle.keyparts.specs.View.{nodeOf, actionOf, stepOf}
+use Rattle.keyvalues.specs.View.{nodeOf, actionOf, stepOf}
 use Rattle.keyloop.proofs.Rounds.{land-empty, land-root, land-step}
 use borrow.Author.Needs.{needs}
 use Rattle.keyloop.proofs.turn.land.Statement.{statement}

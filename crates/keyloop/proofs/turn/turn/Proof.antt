@@ -1,6 +1,7 @@
 -- The three ways of following are the clauses of `turnBy`, and the node that was come to tells the rest.
 use mathlib.Core.Path.{sym, ap, _∙_}
-use Rattle.keyparts.specs.View.{nodeOf, eventOf, followOf, nodesOf, edgesOf, classesIn, reached, followLinks, edgeWords, headWords, actWords, graphIn}
+use Rattle.keyvalues.specs.View.{nodeOf, eventOf, nodesOf, classesIn}
+use Rattle.keyparts.specs.View.{followOf, edgesOf, reached, followLinks, edgeWords, headWords, actWords, graphIn}
 use Rattle.keypairs.specs.View.{sharedOf, contextOf}
 use Rattle.keyloop.proofs.Rounds.{by-result, by-state, falls-result, falls-state, stuck-result, stuck-state}
 use borrow.Author.Needs.{needs}

@@ -1,6 +1,6 @@
 -- The pushes stop at a refusal, and else the next mode is entered from what they left.
 use mathlib.Core.Path.{sym, _∙_}
-use Rattle.keyparts.specs.View.{maybeOf}
+use Rattle.keyvalues.specs.View.{maybeOf}
 use Rattle.keypairs.specs.View.{tablesIn, actionsBy, contextOf, pairsOf, trackersOf}
 use Rattle.keypairs.proofs.Lists.{outcome-ok, outcome-no}
 use Rattle.keypairs.proofs.Modes.{give-goto-stop, give-goto-on}

@@ -1,7 +1,7 @@
 -- Within the table the three words are the block of the mode; past it the entry is the default.
 use Prim.Native.Nat.{ℕ, min}
 use mathlib.Core.Path.{_≡_, _∙_}
-use Rattle.keyparts.specs.View.{sizesIn, modeWords}
+use Rattle.keyvalues.specs.View.{sizesIn, modeWords}
 use Rattle.keypairs.specs.View.{entryBy, tablesIn}
 use Rattle.keypairs.proofs.Modes.{entry-in, entry-out}
 use borrow.Author.Needs.{needs}

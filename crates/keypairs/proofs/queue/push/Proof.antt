@@ -1,7 +1,7 @@
 -- The rules come first and may refuse; then the pair goes behind the queue unless it is full.
 use mathlib.Core.Path.{sym, _∙_}
 use lib.ListN.{length-set}
-use Rattle.keyparts.specs.View.{outcome}
+use Rattle.keyvalues.specs.View.{outcome}
 use Rattle.keypairs.specs.View.{trackersOf, tablesIn, pairBy}
 use Rattle.keypairs.proofs.Lists.{outcome-ok, outcome-no}
 use Rattle.keypairs.proofs.Pushes.{push-refused, push-room, push-full}

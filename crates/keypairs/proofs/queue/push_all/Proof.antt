@@ -5,7 +5,7 @@ use mathlib.Core.List.{List}
 use lib.ListN.{length, drop}
 use borrow.Author.Needs.{needs}
 use Rattle.rules.specs.Values.{Context}
-use Rattle.keyparts.specs.View.{outcome}
+use Rattle.keyvalues.specs.View.{outcome}
 use Rattle.rules.specs.KeyLoop.{pushAll}
 use Rattle.keypairs.specs.View.{contextOf, actionsBy, pairsOf, trackersOf, tablesIn, shared}
 use Rattle.keypairs.proofs.Lists.{outcome-ok, outcome-no}

@@ -6,7 +6,7 @@ use Rattle.rules.specs.Tables.{matches}
 use Rattle.rules.specs.KeyLoop.{track}
 use Rattle.keypairs.specs.View.{trackersOf, ruleBy, statusBy}
 use Rattle.keypairs.proofs.Sequences.{rule-in, rule-out, block-long}
-use Rattle.keyparts.specs.View.{outcome}
+use Rattle.keyvalues.specs.View.{outcome}
 use borrow.Author.Needs.{needs}
 use Rattle.keypairs.proofs.rule.apply_rule.Statement.{statement}
 use Rattle.keypairs.proofs.rule.apply_rule.Tie as tie

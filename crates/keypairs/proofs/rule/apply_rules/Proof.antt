@@ -6,7 +6,7 @@ use lib.ListN.{length, drop}
 use borrow.Author.Needs.{needs}
 use Rattle.rules.specs.Tables.{Rule}
 use Rattle.rules.specs.KeyLoop.{applyRule, applyRules}
-use Rattle.keyparts.specs.View.{outcome, sizesIn, ruleWords}
+use Rattle.keyvalues.specs.View.{outcome, sizesIn, ruleWords}
 use Rattle.keypairs.specs.View.{pairOf, trackersOf, ruleOf, rulesOf, tablesIn}
 use Rattle.keypairs.proofs.Lists.{outcome-ok, outcome-no}
 use Rattle.keypairs.proofs.Sequences.{rules-on, rules-stop, rules-end, rules-word, rules-long}

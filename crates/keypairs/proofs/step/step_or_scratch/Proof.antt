@@ -1,7 +1,7 @@
 -- After the mark, a step that is idle stays, and any other gives and enters.
 use lib.ListN.{length}
 use mathlib.Core.Path.{_≡_, refl}
-use Rattle.keyparts.specs.View.{outcome, stepOf}
+use Rattle.keyvalues.specs.View.{outcome, stepOf}
 use Rattle.keypairs.specs.View.{tablesIn, stateOf}
 use Rattle.keypairs.proofs.Modes.{step-idle, step-goes}
 use borrow.Author.Needs.{needs}

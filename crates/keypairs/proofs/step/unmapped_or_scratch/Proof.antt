@@ -2,7 +2,8 @@
 use mathlib.Core.Path.{ap}
 use Rattle.rules.specs.Graph.{Node}
 use Rattle.rules.specs.Calls.{graphNavigator}
-use Rattle.keyparts.specs.View.{nodeOf, nodesOf, graphBy, headWords, actWords}
+use Rattle.keyvalues.specs.View.{nodeOf, nodesOf, graphBy}
+use Rattle.keyparts.specs.View.{headWords, actWords}
 use Rattle.keypairs.specs.View.{tablesIn, entryBy, stateOf}
 use Rattle.keypairs.proofs.Modes.{unmapped-is}
 use borrow.Author.Needs.{needs}

@@ -1,6 +1,6 @@
 -- The arms are the clauses of `track`; each of the first four writes the block at once.
 use Rattle.keypairs.proofs.Sequences.{track-atom, track-break, track-ignore, track-restart}
-use Rattle.keyparts.specs.View.{outcome}
+use Rattle.keyvalues.specs.View.{outcome}
 use borrow.Author.Needs.{needs}
 use Rattle.keypairs.proofs.tracker.track.Statement.{statement}
 use Rattle.keypairs.proofs.tracker.track.Tie as tie

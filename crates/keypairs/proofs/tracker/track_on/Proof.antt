@@ -1,7 +1,7 @@
 -- The head tells whether the sequence is broken and whether it is full.
 use mathlib.Core.Path.{refl}
 use Rattle.keypairs.proofs.Sequences.{track-anew, track-more, track-full}
-use Rattle.keyparts.specs.View.{outcome}
+use Rattle.keyvalues.specs.View.{outcome}
 use borrow.Author.Needs.{needs}
 use Rattle.keypairs.proofs.tracker.track_on.Statement.{statement}
 use Rattle.keypairs.proofs.tracker.track_on.Tie as tie

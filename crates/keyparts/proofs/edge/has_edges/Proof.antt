@@ -8,7 +8,7 @@ use borrow.Author.Tests.{eq-eqb, ne-eqb}
 use Rattle.rules.specs.Basics.{some-of}
 use Rattle.rules.specs.Graph.{Edge, hasEdges}
 use Rattle.keyparts.specs.View.{edgeOf}
-use Rattle.keyparts.proofs.Finds.{view-cons, view-nil}
+use Rattle.keyvalues.proofs.Lists.{view-cons, view-nil}
 use borrow.Author.Needs.{needs}
 use Rattle.keyparts.proofs.edge.has_edges.Statement.{statement}
 use Rattle.keyparts.proofs.edge.has_edges.Tie as tie

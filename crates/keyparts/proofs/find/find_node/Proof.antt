@@ -9,8 +9,8 @@ use borrow.Author.Needs.{needs}
 use borrow.Author.Count.{below-more}
 use Rattle.rules.specs.Calls.{holdsAction}
 use Rattle.rules.specs.Graph.{getNode}
-use Rattle.keyparts.specs.View.{nodesOf, graphBy}
-use Rattle.keyparts.proofs.Nodes.{nodes-total, test-no, test-yes}
+use Rattle.keyvalues.specs.View.{nodesOf, graphBy}
+use Rattle.keyvalues.proofs.Nodes.{nodes-total, test-no, test-yes}
 use Rattle.keyparts.proofs.find.find_node.Statement.{statement}
 use Rattle.keyparts.proofs.find.find_node.Tie as tie
 

@@ -1,5 +1,5 @@
 -- The view has as many nodes as the count says, and 1,040 at most; the difference to 1,040 is what is left.
-use Rattle.keyparts.proofs.Nodes.{hint-fits}
+use Rattle.keyvalues.proofs.Nodes.{hint-fits}
 use borrow.Author.Needs.{needs}
 use Rattle.keyparts.proofs.find.free_nodes.Statement.{statement}
 use Rattle.keyparts.proofs.find.free_nodes.Tie as tie

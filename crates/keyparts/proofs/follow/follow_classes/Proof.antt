@@ -7,8 +7,10 @@ use mathlib.Core.Path.{_≡_, refl, sym, ap, _∙_}
 use mathlib.Core.Option.{some, none}
 use Rattle.rules.specs.Tables.{memberships}
 use Rattle.rules.specs.Graph.{orElseBy}
-use Rattle.keyparts.specs.View.{classAt, followMembers, maybeOf, classesOf, reached, linkedEnd}
-use Rattle.keyparts.proofs.Finds.{view-cons, view-nil, members-step}
+use Rattle.keyvalues.specs.View.{classAt, maybeOf, classesOf}
+use Rattle.keyparts.specs.View.{followMembers, reached, linkedEnd}
+use Rattle.keyvalues.proofs.Lists.{view-cons, view-nil}
+use Rattle.keyparts.proofs.Finds.{members-step}
 use borrow.Author.Needs.{needs}
 use Rattle.keyparts.proofs.follow.follow_classes.Statement.{statement}
 use Rattle.keyparts.proofs.follow.follow_classes.Tie as tie

@@ -3,8 +3,9 @@ use mathlib.Core.Path.{_∙_, ap, sym}
 use Rattle.rules.specs.Values.{Key}
 use Rattle.rules.specs.Tables.{memberships}
 use Rattle.rules.specs.Graph.{classEvents, eventsOf}
-use Rattle.keyparts.specs.View.{maybeOf, classesOf, reached, linkedEnd, followLinks}
-use Rattle.keyparts.proofs.Words.{event-key}
+use Rattle.keyvalues.specs.View.{maybeOf, classesOf}
+use Rattle.keyparts.specs.View.{reached, linkedEnd, followLinks}
+use Rattle.keyvalues.proofs.Words.{event-key}
 use Rattle.keyparts.proofs.Finds.{follow-hit, follow-miss}
 use borrow.Author.Needs.{needs}
 use Rattle.keyparts.proofs.follow.follow_edge.Statement.{statement}

@@ -4,8 +4,9 @@ use mathlib.Core.List.{[]}
 use Rattle.rules.specs.Values.{Any}
 use Rattle.rules.specs.Tables.{memberships}
 use Rattle.rules.specs.Graph.{classEvents}
-use Rattle.keyparts.specs.View.{maybeOf, reached, linkedEnd}
-use Rattle.keyparts.proofs.Words.{event-any, event-fall}
+use Rattle.keyvalues.specs.View.{maybeOf}
+use Rattle.keyparts.specs.View.{reached, linkedEnd}
+use Rattle.keyvalues.proofs.Words.{event-any, event-fall}
 use Rattle.keyparts.proofs.Finds.{follow-hit, follow-miss, follow-falls, follow-ends}
 use borrow.Author.Needs.{needs}
 use Rattle.keyparts.proofs.follow.follow_rest.Statement.{statement}

@@ -2,7 +2,7 @@
 use Prim.Native.Nat.{_%_}
 use mathlib.Core.Path.{_∙_, sym}
 use Rattle.keyparts.specs.View.{memberEnd}
-use Rattle.keyparts.proofs.Words.{event-class}
+use Rattle.keyvalues.proofs.Words.{event-class}
 use borrow.Author.Needs.{needs}
 use Rattle.keyparts.proofs.follow.member_end.Statement.{statement}
 use Rattle.keyparts.proofs.follow.member_end.Tie as tie

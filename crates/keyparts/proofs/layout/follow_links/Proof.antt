@@ -1,7 +1,8 @@
 -- The slices are the parts of the words that the definitions name, and the first word says how many classes count.
 use mathlib.Core.Path.{ap, _∙_}
 use Prim.Native.Nat.{ℕ}
-use Rattle.keyparts.specs.View.{edgeWords, classWords, classesOf, sizesIn, reached, followLinks}
+use Rattle.keyvalues.specs.View.{classWords, classesOf, sizesIn}
+use Rattle.keyparts.specs.View.{edgeWords, reached, followLinks}
 use borrow.Author.Needs.{needs}
 use Rattle.keyparts.proofs.layout.follow_links.Statement.{statement}
 use Rattle.keyparts.proofs.layout.follow_links.Tie as tie

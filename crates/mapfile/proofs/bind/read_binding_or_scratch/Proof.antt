@@ -3,7 +3,8 @@ use Prim.Native.Nat.{ℕ}
 use Rattle.rules.specs.KeyLoop.{State}
 use Rattle.rules.specs.Calls.{Machine, graphKind}
 use Rattle.rules.specs.MapFile.{readBinding}
-use Rattle.keyparts.specs.View.{chosenOf, graphIn}
+use Rattle.keyvalues.specs.View.{chosenOf}
+use Rattle.keyparts.specs.View.{graphIn}
 use Rattle.mapfile.specs.View.{machineBy}
 use Rattle.mapfile.proofs.Bindings.{come-from, prefix-alone, mapping-step, prefix-step}
 use borrow.Author.Needs.{needs}

@@ -8,7 +8,7 @@ use Rattle.rules.specs.Numbers.{number}
 use Rattle.mapparts.specs.View.{placeOf}
 use Rattle.mapparts.proofs.Reading.{Left, left-all, as-made}
 use Rattle.mapparts.proofs.Parts.{kept, list-read}
-use Rattle.keyparts.proofs.Ranges.{fit-take}
+use Rattle.keyvalues.proofs.Ranges.{fit-take}
 use borrow.Author.Needs.{needs}
 use Rattle.mapparts.proofs.list.read_actions.Statement.{statement}
 use Rattle.mapparts.proofs.list.read_actions.Tie as tie

@@ -1,5 +1,5 @@
 -- A repeat and then an event, read in a row.
-use Rattle.keyparts.specs.View.{partOf}
+use Rattle.keyvalues.specs.View.{partOf}
 use Rattle.mapparts.proofs.Rows.{part-read}
 use borrow.Author.Needs.{needs}
 use Rattle.mapparts.proofs.part.read_part.Statement.{statement}

@@ -6,7 +6,7 @@ use mathlib.Core.List.{map}
 use lib.ListN.{length, take, length-set}
 use Rattle.rules.specs.Values.{mostParts}
 use Rattle.rules.specs.MapFile.{readPart}
-use Rattle.keyparts.specs.View.{partOf, noPart}
+use Rattle.keyvalues.specs.View.{partOf, noPart}
 use Rattle.mapparts.specs.View.{placeOf}
 use Rattle.mapparts.proofs.Reading.{Left, left-all, as-made}
 use Rattle.mapparts.proofs.Parts.{stored, list-read, fit-map}

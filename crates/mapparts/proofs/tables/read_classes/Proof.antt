@@ -6,7 +6,7 @@ use mathlib.Core.List.{map}
 use lib.ListN.{length, take, length-set}
 use Rattle.rules.specs.Values.{mostClasses}
 use Rattle.rules.specs.MapFile.{readClass}
-use Rattle.keyparts.specs.View.{classAt}
+use Rattle.keyvalues.specs.View.{classAt}
 use Rattle.mapparts.specs.View.{placeOf}
 use Rattle.mapparts.proofs.Reading.{Left, left-all}
 use Rattle.mapparts.proofs.Parts.{stored, list-read}

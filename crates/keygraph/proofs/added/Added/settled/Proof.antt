@@ -1,5 +1,5 @@
 -- Accepted, the words that were lent hold the new graph; refused, the graph itself is given back.
-use Rattle.keyparts.specs.View.{settled}
+use Rattle.keyvalues.specs.View.{settled}
 use borrow.Author.Needs.{needs}
 use Rattle.keygraph.proofs.added.Added.settled.Statement.{statement}
 use Rattle.keygraph.proofs.added.Added.settled.Tie as tie

@@ -1,6 +1,6 @@
 -- The words of an empty node go in as a node more.
 use borrow.Author.Needs.{needs}
-use Rattle.keyparts.proofs.Words.{mode-fits}
+use Rattle.keyvalues.proofs.Words.{mode-fits}
 use Rattle.keygraph.proofs.cursor.Cursor.add_empty.Statement.{statement}
 use Rattle.keygraph.proofs.cursor.Cursor.add_empty.Tie as tie
 

@@ -1,7 +1,8 @@
 -- An edge that is there is followed, and else the part is made by its repeat: the two clauses of `goOn`.
 use Rattle.rules.specs.Graph.{addIntermediate, goOn}
 use mathlib.Core.Path.{ap, sym, _∙_}
-use Rattle.keyparts.specs.View.{partOf, maybeOf, nodesOf, headWords, actWords}
+use Rattle.keyvalues.specs.View.{partOf, maybeOf, nodesOf}
+use Rattle.keyparts.specs.View.{headWords, actWords}
 use Rattle.keygraph.proofs.Cursors.{restates-in}
 use borrow.Author.Needs.{needs}
 use Rattle.keygraph.proofs.cursor.Cursor.add_intermediate.Statement.{statement}

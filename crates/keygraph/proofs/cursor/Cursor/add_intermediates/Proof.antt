@@ -5,10 +5,10 @@ use mathlib.Core.List.{map}
 use native.Mathlib.Omega.{arith}
 use lib.ListN.{length, take, drop}
 use Rattle.rules.specs.Basics.{_>>=_}
-use Rattle.keyparts.specs.View.{partOf}
+use Rattle.keyvalues.specs.View.{partOf}
 use Rattle.keygraph.specs.Making.{cameTo, addParts}
-use Rattle.keyparts.proofs.Finds.{view-cons, view-nil}
-use Rattle.keyparts.proofs.Ranges.{rawPart, length-mapped}
+use Rattle.keyvalues.proofs.Lists.{view-cons, view-nil}
+use Rattle.keyvalues.proofs.Ranges.{rawPart, length-mapped}
 use Rattle.keygraph.proofs.Cursors.{parts-more, parts-none}
 use borrow.Author.Needs.{needs}
 use Rattle.keygraph.proofs.cursor.Cursor.add_intermediates.Statement.{statement}

@@ -1,7 +1,7 @@
 -- At 0 the Fallthrough edge to the end, and else all but the last time; then the edge to the node that the event leads back to.
 use native.Mathlib.Omega.{arith}
 use Prim.Native.Nat.{_-_}
-use Rattle.keyparts.specs.View.{eventAt}
+use Rattle.keyvalues.specs.View.{eventAt}
 use Rattle.keygraph.proofs.Cursors.{to-falls, min-none, min-some}
 use borrow.Author.Needs.{needs}
 use Rattle.keygraph.proofs.cursor.Cursor.add_min.Statement.{statement}

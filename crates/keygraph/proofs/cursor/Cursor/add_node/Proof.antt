@@ -3,7 +3,8 @@
 use Prim.Native.Nat.{_+_}
 use mathlib.Core.Path.{refl, ap}
 use lib.ListN.{take}
-use Rattle.keyparts.specs.View.{nodeIn, graphIn, outcome}
+use Rattle.keyvalues.specs.View.{nodeIn, outcome}
+use Rattle.keyparts.specs.View.{graphIn}
 use Rattle.keygraph.specs.Making.{cameTo, cursorIn}
 use Rattle.keygraph.proofs.Cursors.{starts-made, stays-made, node-made}
 use Rattle.keyparts.proofs.Places.{node-more, node-none}

@@ -1,6 +1,6 @@
 -- One step along the event with the words of an empty node.
 use borrow.Author.Needs.{needs}
-use Rattle.keyparts.proofs.Words.{mode-fits}
+use Rattle.keyvalues.proofs.Words.{mode-fits}
 use Rattle.keygraph.proofs.cursor.Cursor.add_simple.Statement.{statement}
 use Rattle.keygraph.proofs.cursor.Cursor.add_simple.Tie as tie
 

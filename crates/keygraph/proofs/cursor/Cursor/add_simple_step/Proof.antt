@@ -2,7 +2,7 @@
 use Rattle.rules.specs.Graph.{addSimpleStep}
 use Rattle.keygraph.proofs.Cursors.{restates-in, simple-parts}
 use Rattle.keygraph.proofs.Binds.{then, with}
-use Rattle.keyparts.specs.View.{eventAt, nodeIn}
+use Rattle.keyvalues.specs.View.{eventAt, nodeIn}
 use Rattle.keygraph.specs.Making.{cursorIn}
 use borrow.Author.Needs.{needs}
 use Rattle.keygraph.proofs.cursor.Cursor.add_simple_step.Statement.{statement}

@@ -5,8 +5,9 @@ use mathlib.Core.Path.{_≡_, refl, sym, _∙_}
 use native.Mathlib.Omega.{arith}
 use lib.ListN.{length}
 use Rattle.rules.specs.Basics.{_>>=_}
-use Rattle.keyparts.specs.View.{eventAt, maybeOf, Indexed}
-use Rattle.keyparts.proofs.Words.{mode-fits}
+use Rattle.keyvalues.specs.View.{eventAt, maybeOf}
+use Rattle.keyparts.specs.View.{Indexed}
+use Rattle.keyvalues.proofs.Words.{mode-fits}
 use Rattle.keygraph.specs.Making.{cameTo, edgesIn, addTimes}
 use Rattle.keygraph.proofs.Cursors.{times-more, times-none}
 use borrow.Author.Needs.{needs}

@@ -2,7 +2,7 @@
 -- refused before is kept, and so are the edges and their index.
 use mathlib.Core.Path.{refl, _∙_}
 use Rattle.rules.specs.Graph.{edgeTo, edgeBetween}
-use Rattle.keyparts.specs.View.{eventAt}
+use Rattle.keyvalues.specs.View.{eventAt}
 use Rattle.keygraph.specs.Making.{cameTo, cursorIn}
 use Rattle.keygraph.proofs.Cursors.{restates, stays, place-in}
 use borrow.Author.Needs.{needs}

@@ -1,6 +1,6 @@
 -- An edge from where the cursor stands is one between that node and the end.
 use mathlib.Core.Path.{refl}
-use Rattle.keyparts.specs.View.{eventAt}
+use Rattle.keyvalues.specs.View.{eventAt}
 use Rattle.keygraph.specs.Making.{cameTo, cursorIn}
 use Rattle.rules.specs.Graph.{edgeTo, edgeBetween}
 use Rattle.keygraph.proofs.Cursors.{restates}

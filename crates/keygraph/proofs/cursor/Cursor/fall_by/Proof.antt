@@ -1,7 +1,7 @@
 -- By whether there is an end.
 use Rattle.rules.specs.Graph.{mapFall}
 use Rattle.keygraph.specs.Making.{cameTo}
-use Rattle.keyparts.proofs.Words.{event-fall}
+use Rattle.keyvalues.proofs.Words.{event-fall}
 use Rattle.keygraph.proofs.Binds.{leads-same}
 use borrow.Author.Needs.{needs}
 use Rattle.keygraph.proofs.cursor.Cursor.fall_by.Statement.{statement}

@@ -1,7 +1,7 @@
 -- The last part, and then the Fallthrough edge of the step: the clause of `mapPath` for one part.
 use Rattle.rules.specs.Graph.{mapPath}
-use Rattle.keyparts.specs.View.{partOf, stepOf}
-use Rattle.keyparts.proofs.Words.{mode-fits}
+use Rattle.keyvalues.specs.View.{partOf, stepOf}
+use Rattle.keyvalues.proofs.Words.{mode-fits}
 use Rattle.keygraph.proofs.Binds.{then}
 use borrow.Author.Needs.{needs}
 use Rattle.keygraph.proofs.cursor.Cursor.map_end.Statement.{statement}

@@ -1,6 +1,6 @@
 -- Call by call the chain of `mapLast` at Min.
 use Rattle.rules.specs.Graph.{mapLast}
-use Rattle.keyparts.specs.View.{eventAt}
+use Rattle.keyvalues.specs.View.{eventAt}
 use Rattle.keygraph.proofs.Binds.{then, with}
 use Rattle.keygraph.proofs.Cursors.{between-falls, next-min}
 use borrow.Author.Needs.{needs}

@@ -3,9 +3,9 @@ use Prim.Native.Nat.{_-_}
 use mathlib.Core.Path.{_∙_}
 use native.Mathlib.Omega.{arith}
 use lib.ListN.{length-take}
-use Rattle.keyparts.specs.View.{partOf, stepOf}
-use Rattle.keyparts.proofs.Finds.{view-nil}
-use Rattle.keyparts.proofs.Ranges.{rawPart}
+use Rattle.keyvalues.specs.View.{partOf, stepOf}
+use Rattle.keyvalues.proofs.Lists.{view-nil}
+use Rattle.keyvalues.proofs.Ranges.{rawPart}
 use Rattle.keygraph.proofs.Cursors.{map-whole, map-none, view-last}
 use borrow.Author.Needs.{needs}
 use Rattle.keygraph.proofs.cursor.Cursor.map_path.Statement.{statement}

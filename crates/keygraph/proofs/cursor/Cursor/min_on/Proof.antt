@@ -1,7 +1,7 @@
 -- At 0 the Fallthrough edge to the node that the event leads back to; else all but the last time, and the edge for the last.
 use native.Mathlib.Omega.{arith}
 use Prim.Native.Nat.{_-_}
-use Rattle.keyparts.specs.View.{eventAt}
+use Rattle.keyvalues.specs.View.{eventAt}
 use Rattle.keygraph.proofs.Cursors.{to-falls, on-none, on-some}
 use borrow.Author.Needs.{needs}
 use Rattle.keygraph.proofs.cursor.Cursor.min_on.Statement.{statement}

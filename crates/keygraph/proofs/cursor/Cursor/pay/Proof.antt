@@ -1,7 +1,7 @@
 -- By whether an edge is owed, as `paid`.
 use Rattle.keygraph.specs.Making.{cameTo, cursorIn}
 use Rattle.keygraph.specs.Making.{paid}
-use Rattle.keyparts.proofs.Words.{event-fall}
+use Rattle.keyvalues.proofs.Words.{event-fall}
 use Rattle.keygraph.proofs.Cursors.{alters, restates}
 use borrow.Author.Needs.{needs}
 use Rattle.keygraph.proofs.cursor.Cursor.pay.Statement.{statement}

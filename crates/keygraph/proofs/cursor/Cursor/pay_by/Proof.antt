@@ -1,6 +1,6 @@
 -- By whether an edge is owed, as `paid`.
 use Rattle.keygraph.specs.Making.{cameTo, cursorIn, paid}
-use Rattle.keyparts.proofs.Words.{event-fall}
+use Rattle.keyvalues.proofs.Words.{event-fall}
 use Rattle.keygraph.proofs.Cursors.{alters, restates}
 use borrow.Author.Needs.{needs}
 use Rattle.keygraph.proofs.cursor.Cursor.pay_by.Statement.{statement}

@@ -1,5 +1,5 @@
 -- The refusal number is 0 exactly where the cursor was not refused.
-use Rattle.keyparts.specs.View.{outcome}
+use Rattle.keyvalues.specs.View.{outcome}
 use Rattle.keygraph.specs.Making.{cameTo}
 use Rattle.keygraph.proofs.Binds.{refused}
 use Rattle.keygraph.proofs.cursor.Cursor.placed.Statement.{statement}

@@ -1,6 +1,6 @@
 -- The clause of `prefixPath` for one part.
 use Rattle.rules.specs.Graph.{prefixPath}
-use Rattle.keyparts.specs.View.{partOf}
+use Rattle.keyvalues.specs.View.{partOf}
 use borrow.Author.Needs.{needs}
 use Rattle.keygraph.proofs.cursor.Cursor.prefix_end.Statement.{statement}
 use Rattle.keygraph.proofs.cursor.Cursor.prefix_end.Tie as tie

@@ -1,7 +1,7 @@
 -- The test of `prefixLast` at Max, and else its chain.
 use mathlib.Core.Path.{sym, _∙_}
 use Rattle.rules.specs.Graph.{prefixLast}
-use Rattle.keyparts.specs.View.{eventAt}
+use Rattle.keyvalues.specs.View.{eventAt}
 use Rattle.keygraph.specs.Making.{cameTo, cursorIn}
 use Rattle.keygraph.proofs.Binds.{then, with}
 use Rattle.keygraph.proofs.Cursors.{alters-in, max-prefixes, to-falls, between-falls}

@@ -1,6 +1,6 @@
 -- By whether there is a step: a node that holds it and falls through to the root, or an edge to the root.
 use Rattle.rules.specs.Graph.{prefixLast, actionOf}
-use Rattle.keyparts.specs.View.{chosenOf}
+use Rattle.keyvalues.specs.View.{chosenOf}
 use Rattle.keygraph.proofs.Binds.{then, with}
 use Rattle.keygraph.proofs.Cursors.{between-falls}
 use Rattle.keygraph.proofs.cursor.Cursor.prefix_once.Statement.{statement}

@@ -4,12 +4,12 @@ use mathlib.Core.Path.{ap, sym, _∙_}
 use native.Mathlib.Omega.{arith}
 use lib.Dec.{eqb}
 use lib.ListN.{length-take}
-use Rattle.keyparts.specs.View.{partOf, stepOf}
-use Rattle.keyparts.proofs.Finds.{view-nil}
-use Rattle.keyparts.proofs.Ranges.{rawPart}
+use Rattle.keyvalues.specs.View.{partOf, stepOf}
+use Rattle.keyvalues.proofs.Lists.{view-nil}
+use Rattle.keyvalues.proofs.Ranges.{rawPart}
 use mathlib.Core.Bool.{true}
-use Rattle.keyparts.specs.View.{chosenOf}
-use Rattle.keyparts.proofs.Ranges.{view-count}
+use Rattle.keyvalues.specs.View.{chosenOf}
+use Rattle.keyvalues.proofs.Ranges.{view-count}
 use Rattle.keygraph.proofs.Cursors.{prefix-whole, prefix-none, view-last}
 use borrow.Author.Needs.{needs}
 use Rattle.keygraph.proofs.cursor.Cursor.prefix_path.Statement.{statement}

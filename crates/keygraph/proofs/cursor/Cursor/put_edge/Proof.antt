@@ -4,7 +4,8 @@
 use native.Mathlib.Omega.{arith}
 use mathlib.Core.Path.{refl}
 use Prim.Native.Nat.{_+_, _*_}
-use Rattle.keyparts.specs.View.{eventAt, graphIn, outcome}
+use Rattle.keyvalues.specs.View.{eventAt, outcome}
+use Rattle.keyparts.specs.View.{graphIn}
 use Rattle.keygraph.specs.Making.{cameTo, cursorIn}
 use Rattle.keygraph.proofs.Cursors.{starts, edge-leads}
 use Rattle.keyparts.proofs.Places.{edge-put, edge-more, edge-none, index-put, index-more, index-full}

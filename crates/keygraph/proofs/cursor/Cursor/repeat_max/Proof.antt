@@ -1,6 +1,6 @@
 -- At 0 nothing is done; else call by call the chain of `addRepeat` at Max.
 use Rattle.rules.specs.Graph.{addRepeat}
-use Rattle.keyparts.specs.View.{eventAt}
+use Rattle.keyvalues.specs.View.{eventAt}
 use Rattle.keygraph.specs.Making.{cameTo}
 use Rattle.keygraph.proofs.Binds.{then, with, leads-same}
 use Rattle.keygraph.proofs.Cursors.{max-repeats, to-falls}

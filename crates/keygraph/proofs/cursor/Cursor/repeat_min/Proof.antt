@@ -1,5 +1,5 @@
 -- Call by call the chain of `addRepeat` at Min.
-use Rattle.keyparts.specs.View.{eventAt}
+use Rattle.keyvalues.specs.View.{eventAt}
 use Rattle.keygraph.proofs.Cursors.{min-repeats}
 use borrow.Author.Needs.{needs}
 use Rattle.keygraph.proofs.cursor.Cursor.repeat_min.Statement.{statement}

@@ -3,10 +3,11 @@
 -- The words of the edges stay.
 use mathlib.Core.Path.{refl, ap}
 use lib.ListN.{take}
-use Rattle.keyparts.specs.View.{nodeIn, graphIn, outcome}
+use Rattle.keyvalues.specs.View.{nodeIn, outcome}
+use Rattle.keyparts.specs.View.{graphIn}
 use Rattle.keygraph.specs.Making.{cameTo, cursorIn}
 use Rattle.keygraph.proofs.Cursors.{starts-made, stays-made, settle-made}
-use Rattle.keyparts.proofs.Nodes.{settle-plain}
+use Rattle.keyvalues.proofs.Nodes.{settle-plain}
 use Rattle.keyparts.proofs.Places.{settle-put, settle-past, settle-differs}
 use borrow.Author.Needs.{needs}
 use Rattle.keygraph.proofs.cursor.Cursor.settle.Statement.{statement}

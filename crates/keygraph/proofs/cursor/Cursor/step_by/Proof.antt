@@ -4,7 +4,7 @@ use mathlib.Core.Path.{_∙_}
 use Rattle.rules.specs.Graph.{addSimpleStep}
 use Rattle.keygraph.proofs.Cursors.{restates-in, upserts-in, simple-parts, end-in}
 use Rattle.keygraph.proofs.Binds.{then, with}
-use Rattle.keyparts.specs.View.{eventAt, nodeIn, maybeOf}
+use Rattle.keyvalues.specs.View.{eventAt, nodeIn, maybeOf}
 use Rattle.keygraph.specs.Making.{cursorIn}
 use borrow.Author.Needs.{needs}
 use Rattle.keygraph.proofs.cursor.Cursor.step_by.Statement.{statement}

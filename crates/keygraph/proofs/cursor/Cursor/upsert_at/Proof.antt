@@ -1,6 +1,6 @@
 -- By whether an end was found, as `upsertAt`. Either way the edges stay.
 use mathlib.Core.Path.{ap}
-use Rattle.keyparts.specs.View.{nodeIn, maybeOf}
+use Rattle.keyvalues.specs.View.{nodeIn, maybeOf}
 use Rattle.keygraph.specs.Making.{cameTo, cursorIn, upsertedAt}
 use Rattle.keygraph.proofs.Cursors.{restates-made, upsert-there, upsert-new}
 use borrow.Author.Needs.{needs}

@@ -1,5 +1,5 @@
 -- The end that was found is that of the cursor's edge for the event, as in `upsertNode`.
-use Rattle.keyparts.specs.View.{eventAt, nodeIn, maybeOf}
+use Rattle.keyvalues.specs.View.{eventAt, nodeIn, maybeOf}
 use Rattle.keygraph.proofs.Cursors.{upserts-in}
 use borrow.Author.Needs.{needs}
 use Rattle.keygraph.proofs.cursor.Cursor.upsert_node.Statement.{statement}

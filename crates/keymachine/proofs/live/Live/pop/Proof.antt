@@ -3,7 +3,7 @@ use Prim.Native.Nat.{_≤_, _-_, _+_}
 use mathlib.Core.Path.{_≡_, refl, _∙_}
 use native.Mathlib.Omega.{arith}
 use lib.ListN.{length}
-use Rattle.keyparts.proofs.Copies.{copied-fits}
+use Rattle.keyvalues.proofs.Copies.{copied-fits}
 use Rattle.keymachine.specs.View.{machineBy}
 use Rattle.keymachine.proofs.Calls.{shifted, pop-none, pop-some}
 use borrow.Author.Needs.{needs}

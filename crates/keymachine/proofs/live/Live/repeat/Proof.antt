@@ -6,8 +6,8 @@ use native.Mathlib.Omega.{arith}
 use lib.ListN.{length, drop, getD}
 use lib.Seq.{paste, length-paste}
 use Rattle.rules.specs.KeyLoop.{Tracker, noTracker, fetch}
-use Rattle.keyparts.specs.View.{copied}
-use Rattle.keyparts.proofs.Copies.{copied-fits}
+use Rattle.keyvalues.specs.View.{copied}
+use Rattle.keyvalues.proofs.Copies.{copied-fits}
 use Rattle.keypairs.specs.View.{overOf, pairsOf, trackersOf}
 use Rattle.keypairs.proofs.Sequences.{length-pairs}
 use Rattle.keymachine.specs.View.{machineBy}

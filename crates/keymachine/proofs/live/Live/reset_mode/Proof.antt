@@ -1,7 +1,7 @@
 -- Breaking all sequences and entering mode 0 is `resetMode`; the trail is not touched.
 use mathlib.Core.Path.{_≡_}
 use lib.ListN.{length, take}
-use Rattle.keyparts.specs.View.{outcome}
+use Rattle.keyvalues.specs.View.{outcome}
 use Rattle.keypairs.specs.View.{stateOf, tablesIn, contextOf, pairsOf, trackersOf}
 use Rattle.keymachine.specs.View.{machineBy}
 use Rattle.keymachine.proofs.Calls.{reset-refused, reset-done, reset-is}

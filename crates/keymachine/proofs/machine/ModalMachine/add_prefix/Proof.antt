@@ -1,5 +1,6 @@
 -- The graph answers as the rules' adding does, and all else of the machine stays.
-use Rattle.keyparts.specs.View.{wholePath, wholeStep, chosenOf, answerOf, graphOf}
+use Rattle.keyvalues.specs.View.{wholePath, wholeStep, chosenOf, answerOf}
+use Rattle.keyparts.specs.View.{graphOf}
 use Rattle.keymachine.specs.View.{machineOf}
 use Rattle.keymachine.proofs.Calls.{prefixed}
 use borrow.Author.Needs.{needs}

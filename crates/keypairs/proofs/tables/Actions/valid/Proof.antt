@@ -1,5 +1,5 @@
 -- A list as long as its count says is at most 4 long if the count is at most 4.
-use Rattle.keyparts.proofs.Ranges.{fit-length}
+use Rattle.keyvalues.proofs.Ranges.{fit-length}
 use Rattle.keypairs.proofs.tables.Actions.valid.Statement.{statement}
 use Rattle.keypairs.proofs.tables.Actions.valid.Tie as tie
 

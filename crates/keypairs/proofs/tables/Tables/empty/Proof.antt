@@ -1,7 +1,7 @@
 -- Counts of 0 take no entries.
 use mathlib.Core.Path.{refl}
 use Rattle.rules.specs.Tables.{noTables}
-use Rattle.keyparts.specs.View.{fit}
+use Rattle.keyvalues.specs.View.{fit}
 use Rattle.keypairs.specs.View.{wholeTables}
 use Rattle.keypairs.proofs.tables.Tables.empty.Statement.{statement}
 use Rattle.keypairs.proofs.tables.Tables.empty.Tie as tie

@@ -2,7 +2,7 @@
 use mathlib.Core.Path.{_≡_, sym, _∙_}
 use lib.ListN.{length}
 use borrow.Author.Tests.{not-true, not-false}
-use Rattle.keyparts.proofs.Ranges.{length-mapped}
+use Rattle.keyvalues.proofs.Ranges.{length-mapped}
 use Rattle.keypairs.specs.View.{wholeTables}
 use Rattle.keypairs.proofs.Packs.{never, over-classes, bad-classes, over-modes, bad-modes, over-rules, rules-too, all-words, tables-from, packed}
 use borrow.Author.Needs.{needs}

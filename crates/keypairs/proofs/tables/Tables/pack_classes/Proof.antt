@@ -9,9 +9,9 @@ use lib.ListN.{length, take, drop, length-set}
 use borrow.Author.Needs.{needs}
 use Rattle.rules.specs.Basics.{every}
 use Rattle.rules.specs.Tables.{classValid}
-use Rattle.keyparts.specs.View.{classAt}
+use Rattle.keyvalues.specs.View.{classAt}
 use Rattle.keypairs.specs.View.{classBy}
-use Rattle.keyparts.proofs.Ranges.{length-mapped, view-count}
+use Rattle.keyvalues.proofs.Ranges.{length-mapped, view-count}
 use Rattle.keypairs.proofs.Packs.{never, every-on, every-stop, every-end, pack-on, pack-end, view-at}
 use Rattle.keypairs.proofs.tables.Tables.pack_classes.Statement.{statement}
 use Rattle.keypairs.proofs.tables.Tables.pack_classes.Tie as tie

@@ -8,10 +8,10 @@ use lib.ListN.{length, take, drop, length-set}
 use borrow.Author.Needs.{needs}
 use Rattle.rules.specs.Basics.{every}
 use Rattle.rules.specs.Tables.{modeValid, ModeEntry}
-use Rattle.keyparts.specs.declared.step.Maybe.the-variants.{Nothing}
+use Rattle.keyvalues.specs.declared.step.Maybe.the-variants.{Nothing}
 use Rattle.keypairs.specs.declared.tables.ModeEntry as raw
 use Rattle.keypairs.specs.View.{wholeEntry, entryOf, blocks}
-use Rattle.keyparts.proofs.Ranges.{length-mapped, view-count}
+use Rattle.keyvalues.proofs.Ranges.{length-mapped, view-count}
 use Rattle.keypairs.proofs.Lists.{length-blocks}
 use Rattle.keypairs.proofs.Packs.{never, every-on, every-stop, every-end, pack-on, pack-end, view-at, three-words}
 use Rattle.keypairs.proofs.tables.Tables.pack_modes.Statement.{statement}

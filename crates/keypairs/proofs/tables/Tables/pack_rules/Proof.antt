@@ -10,7 +10,7 @@ use borrow.Author.Needs.{needs}
 use Rattle.rules.specs.Basics.{every}
 use Rattle.rules.specs.Tables.{ruleValid}
 use Rattle.keypairs.specs.View.{ruleBy, ruleOf}
-use Rattle.keyparts.proofs.Ranges.{length-mapped, view-count}
+use Rattle.keyvalues.proofs.Ranges.{length-mapped, view-count}
 use Rattle.keypairs.proofs.Packs.{never, every-on, every-stop, every-end, pack-on, pack-end, view-at}
 use Rattle.keypairs.proofs.tables.Tables.pack_rules.Statement.{statement}
 use Rattle.keypairs.proofs.tables.Tables.pack_rules.Tie as tie

@@ -6,7 +6,8 @@ use native.Mathlib.Omega.{arith}
 use native.Mathlib.Numerals.{add-one}
 use lib.ListN.{set, replicate}
 use Rattle.rules.specs.Graph.{freshGraph, roots}
-use Rattle.keyparts.specs.View.{nodeAt, zipWith, actionAt, edgeWords, headWords, actWords}
+use Rattle.keyvalues.specs.View.{nodeAt, zipWith, actionAt}
+use Rattle.keyparts.specs.View.{edgeWords, headWords, actWords}
 use Rattle.keyparts.specs.View.{graphIn}
 use borrow.Author.Needs.{needs}
 use Rattle.keyparts.proofs.graph.Graph.fresh.Statement.{statement}
