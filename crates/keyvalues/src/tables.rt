@@ -18,6 +18,7 @@ pub struct TableWords {
 }
 
 impl TableWords {
+    // So many entries the tables have at most. There are as many modes, with an entry or not.
     pub const CLASSES: u16 = 16;
 
     pub const MODES: u16 = 16;
