@@ -22,8 +22,8 @@ use Rattle.keyvalues.proofs.tables.TableWords as TableWords
 use Rattle.keyvalues.proofs.tables.TableWords.Laws as TableWords′
 use Rattle.keypairs.proofs.context.Override as Override
 use Rattle.keypairs.proofs.context.Override.Laws as Override′
-use Rattle.keypairs.proofs.tables.Tables as Tables
-use Rattle.keypairs.proofs.tables.Tables.Laws as Tables′
+use Rattle.keytables.proofs.tables.Tables as Tables
+use Rattle.keytables.proofs.tables.Tables.Laws as Tables′
 use Rattle.keymachine.proofs.live.Live as Live
 use Rattle.keymachine.proofs.live.Live.Laws as Live′
 use Rattle.keymachine.proofs.live.Pressed as Pressed

@@ -17,7 +17,7 @@ ghost use Rattle.rules.specs.Graph.{Graph as Bindings};
 ghost use Rattle.rules.specs.Calls.{graphKind, call, Press, Pop, Reset};
 ghost use Rattle.keyvalues.specs.View.{answerOf};
 ghost use Rattle.keyparts.specs.View.{graphIn};
-ghost use Rattle.keypairs.specs.View.{tablesIn};
+ghost use Rattle.keytables.specs.View.{tablesIn};
 ghost use Rattle.keymachine.specs.View.{machineBy, machineOf, pressOf, popOf};
 ghost use Rattle.host.specs.Codes.{answerCode, coded, openMap};
 

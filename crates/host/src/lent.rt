@@ -16,7 +16,8 @@ ghost use mathlib.Core.Path.{_≡_};
 ghost use Rattle.rules.specs.Calls.{graphKind, call, mode-call, Open, Map, Prefix, Press, Pop, Repeats, Reset, FindFits, HintFits};
 ghost use Rattle.keyvalues.specs.View.{wholePath, wholeStep, chosenOf, answerOf};
 ghost use Rattle.keyparts.specs.View.{foundOf};
-ghost use Rattle.keypairs.specs.View.{overOf, wholeTables};
+ghost use Rattle.keytables.specs.View.{wholeTables};
+ghost use Rattle.keypairs.specs.View.{overOf};
 ghost use Rattle.keymachine.specs.View.{machineOf, pressOf, popOf};
 
 pub fn open(m: &mut Scanner, tables: Tables) -> Answer

@@ -16,7 +16,8 @@ ghost use mathlib.Core.List.{_++_, _∷_};
 ghost use Prim.Native.Nat.{_-_, _≤_, _<_};
 ghost use lib.ListN.{length, take, drop};
 ghost use Rattle.rules.specs.KeyLoop as key;
-ghost use Rattle.keypairs.specs.View.{tablesIn, stateOf};
+ghost use Rattle.keytables.specs.View.{tablesIn};
+ghost use Rattle.keypairs.specs.View.{stateOf};
 ghost use Rattle.keyloop.specs.View.{linkNavigator, keyOf};
 
 const TRAIL: usize = State::TRAIL as usize;

@@ -10,8 +10,9 @@ use borrow.Author.Tests.{lt-ltb, le-ltb, le-leb, lt-leb}
 use Rattle.rules.specs.Values.{Context, Pair}
 use Rattle.rules.specs.KeyLoop.{Tracker, noTracker, override, fetch, withQueue, withSequences, repeatSequence}
 use Rattle.rules.specs.Calls.{Machine, withShared, settled, repeat-call, call, Repeats, graphKind, Accepted, Refused}
-use Rattle.keypairs.specs.View.{pairOf, pairsOf, trackerOf, trackersOf, fetchedAt, blocks}
-use Rattle.keypairs.proofs.Lists.{length-blocks}
+use Rattle.keytables.specs.View.{blocks}
+use Rattle.keypairs.specs.View.{pairOf, pairsOf, trackerOf, trackersOf, fetchedAt}
+use Rattle.keytables.proofs.Blocks.{length-blocks}
 use Rattle.keypairs.proofs.Sequences.{block, block-long, tracker-at, length-pairs, count-is}
 use Rattle.keyloop.proofs.Lists.{drop-take, take-min}
 

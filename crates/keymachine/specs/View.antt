@@ -6,7 +6,8 @@ use Rattle.rules.specs.Graph.{Graph}
 use Rattle.rules.specs.KeyLoop.{State}
 use Rattle.rules.specs.Calls as c
 use Rattle.keyparts.specs.View.{graphOf}
-use Rattle.keypairs.specs.View.{pairBy, tablesIn, stateOf}
+use Rattle.keytables.specs.View.{tablesIn}
+use Rattle.keypairs.specs.View.{pairBy, stateOf}
 use Rattle.keymachine.specs.declared.machine.ModalMachine.{ModalMachine}
 use Rattle.keymachine.specs.declared.live.Live.{Live}
 use Rattle.keymachine.specs.declared.live.Pressed.{Pressed}

@@ -21,7 +21,8 @@ ghost use Rattle.rules.specs.Graph.{Graph as Bindings};
 ghost use Rattle.rules.specs.Calls.{graphKind, call, fresh, mode-call, Press, Pop, Repeats, Reset};
 ghost use Rattle.keyvalues.specs.View.{answerOf};
 ghost use Rattle.keyparts.specs.View.{graphIn};
-ghost use Rattle.keypairs.specs.View.{tablesIn, overOf};
+ghost use Rattle.keytables.specs.View.{tablesIn};
+ghost use Rattle.keypairs.specs.View.{overOf};
 ghost use Rattle.keymachine.specs.View.{liveOf, machineBy, pressOf, popOf};
 
 // The queue, the sequences and the trail are words, of which the state says how many count.

@@ -13,13 +13,14 @@ use keygraph::prefix;
 use keygraph::step::Step;
 use keygraph::tables::TableWords;
 use keypairs::context::Override;
-use keypairs::tables::Tables;
+use keytables::tables::Tables;
 ghost use mathlib.Core.Path.{_≡_};
 ghost use Rattle.rules.specs.Tables.{noTables};
 ghost use Rattle.rules.specs.Calls.{graphKind, call, fresh, withBindings, mode-call, Open, Map as Mapping, Prefix, Press, Pop, Repeats, Reset, FindFits, HintFits};
 ghost use Rattle.keyvalues.specs.View.{wholePath, wholeStep, chosenOf, answerOf};
 ghost use Rattle.keyparts.specs.View.{foundOf, graphOf};
-ghost use Rattle.keypairs.specs.View.{overOf, wholeTables, tablesIn};
+ghost use Rattle.keytables.specs.View.{wholeTables, tablesIn};
+ghost use Rattle.keypairs.specs.View.{overOf};
 ghost use Rattle.keymachine.specs.View.{machineOf, pressOf, popOf};
 
 // What open and the bindings change.

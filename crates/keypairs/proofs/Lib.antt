@@ -3,4 +3,3 @@ pub mod Lists
 pub mod Sequences
 pub mod Pushes
 pub mod Modes
-pub mod Packs

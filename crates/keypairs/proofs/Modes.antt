@@ -17,8 +17,9 @@ use Rattle.rules.specs.KeyLoop.{Tracker, State, at, pushAll, giveAll, gotoMode,
 use Rattle.rules.specs.Graph.{Graph}
 use Rattle.rules.specs.Calls.{graphNavigator}
 use Rattle.keyvalues.specs.View.{fourOf, optOf, outcome}
-use Rattle.keypairs.specs.View.{blocks, entryOf, modesOf, shared, giveGoto}
-use Rattle.keypairs.proofs.Lists.{length-blocks, blocks-word, getD-mapped}
+use Rattle.keytables.specs.View.{blocks, entryOf, modesOf}
+use Rattle.keypairs.specs.View.{shared, giveGoto}
+use Rattle.keytables.proofs.Blocks.{length-blocks, blocks-word, getD-mapped}
 
 -- ---- entries
 

@@ -18,8 +18,10 @@ use Rattle.rules.specs.Calls as c
 use Rattle.rules.specs.KeyLoop.{Tracker, tracker, noTracker, track, override, fetch, applyRule, applyRules}
 use Rattle.keyvalues.proofs.Lists.{map-set}
 use Rattle.keyvalues.specs.View.{outcome, settled}
-use Rattle.keypairs.specs.View.{pairOf, pairsOf, trackerOf, trackersOf, fetchedAt, blocks, ruleOf, rulesOf, broke}
-use Rattle.keypairs.proofs.Lists.{map-more, map-at, map-long, length-blocks, getD-blocks, getD-mapped, blocks-part}
+use Rattle.keytables.specs.View.{blocks, ruleOf, rulesOf}
+use Rattle.keypairs.specs.View.{pairOf, pairsOf, trackerOf, trackersOf, fetchedAt, broke}
+use Rattle.keytables.proofs.Blocks.{length-blocks, getD-blocks, getD-mapped, blocks-part}
+use Rattle.keypairs.proofs.Lists.{map-more, map-at, map-long}
 
 pub packed : (a c m : ℕ) → a < 65536 → c < 65536 → m < 65536 → pairOf (a + c * 65536 + m * 4294967296) ≡ pair a c m
 unfolding pairOf

@@ -3,9 +3,9 @@
 use crate::pair::Pair;
 use crate::queue;
 use crate::state::State;
-use crate::tables::Actions;
-use crate::tables::ModeEntry;
 use crate::tracker::SequenceTracker;
+use keytables::tables::Actions;
+use keytables::tables::ModeEntry;
 use keyvalues::node;
 use keyvalues::number;
 use keyvalues::step::Maybe;
@@ -21,7 +21,8 @@ ghost use Rattle.rules.specs.KeyLoop as key;
 ghost use Rattle.rules.specs.Graph as g;
 ghost use Rattle.rules.specs.Calls.{graphNavigator};
 ghost use Rattle.keyvalues.specs.View.{outcome, maybeOf, fourOf};
-ghost use Rattle.keypairs.specs.View.{entryBy, actionsBy, tablesIn, sharedOf, stateOf, giveGoto};
+ghost use Rattle.keytables.specs.View.{entryBy, actionsBy, tablesIn};
+ghost use Rattle.keypairs.specs.View.{sharedOf, stateOf, giveGoto};
 
 // The number of a refusal, or 0 and the state that was come to.
 pub struct GotoResult {

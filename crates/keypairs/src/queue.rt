@@ -2,8 +2,8 @@
 use crate::context::Context;
 use crate::pair::Pair;
 use crate::rule;
-use crate::tables::Actions;
 use crate::tracker::SequenceTracker;
+use keytables::tables::Actions;
 use keyvalues::number;
 use keyvalues::step::Step;
 use keyvalues::tables::TableWords;
@@ -14,7 +14,8 @@ ghost use lib.ListN.{length, getD};
 ghost use Rattle.rules.specs.Values as v;
 ghost use Rattle.rules.specs.KeyLoop as key;
 ghost use Rattle.keyvalues.specs.View.{outcome};
-ghost use Rattle.keypairs.specs.View.{actionsBy, contextOf, pairBy, pairsOf, trackersOf, tablesIn, shared};
+ghost use Rattle.keytables.specs.View.{actionsBy, tablesIn};
+ghost use Rattle.keypairs.specs.View.{contextOf, pairBy, pairsOf, trackersOf, shared};
 
 // The number of a refusal, or 0 and how many pairs wait then.
 pub struct PushResult {
@@ -57,16 +58,14 @@ pub(crate) fn push(
     }
 }
 
-impl Actions {
-    // The pair of one of the actions: whichever it is, it carries the context that was taken for all.
-    fn pair(self, i: usize, context: Context) -> Pair
-        requires { ⌜ i < 4 ⌝ }
-        ensures { λ r. ⌜ pairBy r ≡ record { action = getD (self .items) i 0; context = contextOf context } ⌝ }
-    {
-        Pair {
-            action: self.items[i],
-            context: context,
-        }
+// The pair of one of the actions: whichever it is, it carries the context that was taken for all.
+fn pair_of(actions: Actions, i: usize, context: Context) -> Pair
+    requires { ⌜ i < 4 ⌝ }
+    ensures { λ r. ⌜ pairBy r ≡ record { action = getD (actions .items) i 0; context = contextOf context } ⌝ }
+{
+    Pair {
+        action: actions.items[i],
+        context: context,
     }
 }
 
@@ -88,7 +87,7 @@ pub(crate) fn push_all(
     let mut held = queued;
     let mut i = 0usize;
     while i < n {
-        let pair = actions.pair(i, context);
+        let pair = pair_of(actions, i, context);
         let r = push(tables, queue, sequences, held, mode, pair);
         if r.refusal != 0 {
             return r;

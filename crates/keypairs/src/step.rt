@@ -3,10 +3,10 @@ use crate::mode;
 use crate::mode::GotoResult;
 use crate::pair::Pair;
 use crate::state::State;
-use crate::tables::Actions;
 use crate::tracker::SequenceTracker;
 use keyparts::graph::Graph;
 use keyparts::layout;
+use keytables::tables::Actions;
 use keyvalues::step::Maybe;
 use keyvalues::step::Step;
 use keyvalues::tables::TableWords;
@@ -22,7 +22,8 @@ ghost use Rattle.rules.specs.Graph as g;
 ghost use Rattle.rules.specs.Calls.{graphNavigator};
 ghost use Rattle.keyvalues.specs.View.{outcome, maybeOf, stepOf, nodesOf, graphBy};
 ghost use Rattle.keyparts.specs.View.{headWords, actWords};
-ghost use Rattle.keypairs.specs.View.{tablesIn, stateOf};
+ghost use Rattle.keytables.specs.View.{tablesIn};
+ghost use Rattle.keypairs.specs.View.{stateOf};
 
 // The list of the node's mode is given, and its next mode entered; without one, the entered mode anew. Refused, the lent
 // queue and sequences are scratch: the number alone counts.

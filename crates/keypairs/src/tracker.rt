@@ -3,6 +3,7 @@
 // by its number work on the whole array.
 use crate::context::Override;
 use crate::pair::Pair;
+use keytables::rule::Rule;
 use keyvalues::answer::Answer;
 ghost use mathlib.Core.Path.{_≡_};
 ghost use mathlib.Core.List.{map};
@@ -197,7 +198,7 @@ pub struct FetchResult {
 
 impl SequenceTracker {
     // So many sequences are kept, with so many pairs each at most.
-    pub const SEQUENCES: u16 = 8;
+    pub const SEQUENCES: u16 = Rule::SEQUENCES;
 
     pub const PAIRS: u16 = 64;
 

@@ -19,7 +19,7 @@ use Rattle.keyvalues.specs.View.{resultBy, outcome, sizesIn}
 use Rattle.keyvalues.specs.declared.answer.Answer.{Answer}
 use Rattle.keyvalues.specs.declared.answer.Answer.the-variants.{Accepted, Refused}
 use Rattle.mapparts.specs.declared.place.FilePlace.{FilePlace}
-use Rattle.keypairs.specs.View.{tablesIn}
+use Rattle.keytables.specs.View.{tablesIn}
 use Rattle.mapparts.specs.View.{placeOf, with, Reads}
 use Rattle.mapfile.specs.View.{Comes, machineBy}
 

@@ -20,7 +20,8 @@ use Rattle.rules.specs.Run.{readKeys, pairBytes, emptied, playKeys}
 use Rattle.keypairs.specs.declared.state.State.{State}
 use Rattle.keyloop.specs.declared.key.InputKeyResult.{InputKeyResult}
 use Rattle.keyvalues.specs.View.{outcome}
-use Rattle.keypairs.specs.View.{pairsOf, stateOf, trackerOf, blocks}
+use Rattle.keytables.specs.View.{blocks}
+use Rattle.keypairs.specs.View.{pairsOf, stateOf, trackerOf}
 use Rattle.keyloop.specs.View.{keyOf}
 use Rattle.mapfile.specs.declared.play.RunResult.the-variants.{Wrote, Refused}
 use Rattle.mapfile.specs.View.{laid, machineBy, ranOf, Ends}

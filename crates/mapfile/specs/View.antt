@@ -13,7 +13,7 @@ use Rattle.rules.specs.KeyLoop.{State}
 use Rattle.rules.specs.Calls.{Machine, graphKind, fresh}
 use Rattle.keyvalues.specs.View.{resultBy}
 use Rattle.keyparts.specs.View.{graphOf}
-use Rattle.keypairs.specs.View.{tablesIn}
+use Rattle.keytables.specs.View.{tablesIn}
 use Rattle.mapfile.specs.declared.bind.BindResult.{BindResult}
 use Rattle.mapfile.specs.declared.map.MapRead.{MapRead}
 use Rattle.mapfile.specs.declared.play.RunResult.{RunResult}

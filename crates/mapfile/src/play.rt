@@ -23,7 +23,7 @@ ghost use Rattle.rules.specs.Basics.{accept};
 ghost use Rattle.rules.specs.Calls.{graphKind, graphNavigator, fresh};
 ghost use Rattle.rules.specs.Run.{readKeys, playKeys, run};
 ghost use Rattle.keyparts.specs.View.{graphIn};
-ghost use Rattle.keypairs.specs.View.{tablesIn};
+ghost use Rattle.keytables.specs.View.{tablesIn};
 ghost use Rattle.keyloop.specs.View.{linkNavigator};
 ghost use Rattle.mapfile.specs.View.{machineBy, Within, Ends};
 

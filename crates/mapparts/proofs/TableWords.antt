@@ -11,8 +11,8 @@ use Rattle.rules.specs.Tables.{ModeEntry}
 use Rattle.rules.specs.MapFile.{Reader, give, upTo, optional, readOptionalMode}
 use Rattle.keyvalues.specs.View.{fit, fourOf, optOf}
 use Rattle.keyvalues.proofs.Ranges.{fit-take}
-use Rattle.keypairs.specs.View.{ruleOf, entryOf, blocks}
-use Rattle.keypairs.proofs.Lists.{length-blocks}
+use Rattle.keytables.specs.View.{ruleOf, entryOf, blocks}
+use Rattle.keytables.proofs.Blocks.{length-blocks}
 use Rattle.mapparts.specs.View.{Reads}
 use Rattle.mapparts.proofs.Reading.{Left, then, gives}
 use Rattle.mapparts.proofs.Parts.{stored}

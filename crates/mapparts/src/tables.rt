@@ -1,8 +1,7 @@
 // The three tables, read into the words that the machine keeps them in.
 use crate::list;
 use crate::place::FilePlace;
-use keypairs::rule::Rule;
-use keypairs::tracker::SequenceTracker;
+use keytables::rule::Rule;
 use keyvalues::class;
 use keyvalues::event::EdgeEvent;
 use keyvalues::number;
@@ -14,7 +13,7 @@ ghost use Prim.Native.Nat.{_<_};
 ghost use Rattle.rules.specs.Values.{mostClasses, modeCount, mostRules};
 ghost use Rattle.rules.specs.MapFile.{listOf, readClass, readMode, readRule, readTables};
 ghost use Rattle.keyvalues.specs.View.{classAt, classesOf};
-ghost use Rattle.keypairs.specs.View.{ruleOf, rulesOf, entryOf, modesOf, tablesIn};
+ghost use Rattle.keytables.specs.View.{ruleOf, rulesOf, entryOf, modesOf, tablesIn};
 ghost use Rattle.mapparts.specs.View.{placeOf, Reads};
 
 // The word of one class or of one rule.
@@ -86,7 +85,7 @@ fn read_rule(s: &[u8], from: FilePlace) -> WordRead
     let b = low.place;
     let high = b.at_least(s, low.value);
     let c = high.place;
-    let sequence = c.below(s, SequenceTracker::SEQUENCES);
+    let sequence = c.below(s, Rule::SEQUENCES);
     let d = sequence.place;
     let status = d.below(s, Rule::STATUSES);
     let e = status.place;

@@ -1,6 +1,6 @@
 -- The live state is the call's, and the number is its answer's.
 use Rattle.keyvalues.specs.View.{answerOf}
-use Rattle.keypairs.specs.View.{tablesIn}
+use Rattle.keytables.specs.View.{tablesIn}
 use Rattle.keymachine.specs.View.{machineBy}
 use borrow.Author.Needs.{needs}
 use Rattle.host.proofs.Numbers.{numbered}

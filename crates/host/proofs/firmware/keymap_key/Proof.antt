@@ -4,7 +4,7 @@ use Prim.Native.Nat.{ℕ}
 use mathlib.Core.List.{[], _∷_, List, map-id}
 use Rattle.rules.specs.Calls.{graphKind, call, Press}
 use Rattle.keyparts.specs.View.{graphIn}
-use Rattle.keypairs.specs.View.{tablesIn}
+use Rattle.keytables.specs.View.{tablesIn}
 use Rattle.keymachine.specs.View.{machineBy, machineOf}
 use Rattle.host.specs.Codes.{coded}
 use denote.Triple.Spec.{tripleOf}

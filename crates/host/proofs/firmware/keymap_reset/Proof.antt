@@ -4,7 +4,7 @@ use mathlib.Core.List.{[], _∷_}
 use Rattle.rules.specs.Graph.{Graph}
 use Rattle.rules.specs.Calls.{graphKind, call, Reset}
 use Rattle.keyparts.specs.View.{graphOf}
-use Rattle.keypairs.specs.View.{tablesIn}
+use Rattle.keytables.specs.View.{tablesIn}
 use Rattle.keymachine.specs.View.{machineBy, machineOf}
 use Rattle.host.specs.Codes.{coded}
 use denote.Triple.Spec.{tripleOf}

@@ -3,7 +3,7 @@ use mathlib.Core.Path.{_≡_}
 use mathlib.Core.List.{[], _∷_}
 use Rattle.rules.specs.Calls.{graphKind, call, Open}
 use Rattle.keyvalues.specs.View.{answerOf}
-use Rattle.keypairs.specs.View.{wholeTables}
+use Rattle.keytables.specs.View.{wholeTables}
 use Rattle.keymachine.specs.View.{machineOf}
 use denote.Triple.Spec.{tripleOf}
 use Rattle.lending.proofs.Args.{plainly}

@@ -5,7 +5,7 @@ use Rattle.rules.specs.Tables.{Tables}
 use Rattle.rules.specs.Graph.{Graph}
 use Rattle.rules.specs.Calls.{graphKind, call, Pop}
 use Rattle.keyparts.specs.View.{graphOf}
-use Rattle.keypairs.specs.View.{tablesIn}
+use Rattle.keytables.specs.View.{tablesIn}
 use Rattle.keymachine.specs.View.{machineBy, machineOf, popOf}
 use denote.Triple.Spec.{tripleOf}
 use Rattle.lending.proofs.Spot.{load}

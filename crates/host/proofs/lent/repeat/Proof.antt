@@ -6,7 +6,8 @@ use Rattle.rules.specs.Graph.{Graph}
 use Rattle.rules.specs.Calls.{graphKind, call, Repeats}
 use Rattle.keyvalues.specs.View.{answerOf}
 use Rattle.keyparts.specs.View.{graphOf}
-use Rattle.keypairs.specs.View.{tablesIn, overOf}
+use Rattle.keytables.specs.View.{tablesIn}
+use Rattle.keypairs.specs.View.{overOf}
 use Rattle.keymachine.specs.View.{machineBy, machineOf}
 use denote.Triple.Spec.{tripleOf}
 use Rattle.lending.proofs.Args.{plainly}

@@ -10,7 +10,8 @@ use Rattle.rules.specs.Basics.{Result}
 use Rattle.rules.specs.KeyLoop.{State, loop, inputKey}
 use Rattle.keyvalues.specs.View.{outcome, stepOf}
 use Rattle.keyparts.specs.View.{edgesOf, edgeWords, graphIn}
-use Rattle.keypairs.specs.View.{tablesIn, stateOf}
+use Rattle.keytables.specs.View.{tablesIn}
+use Rattle.keypairs.specs.View.{stateOf}
 use Rattle.keypairs.proofs.Lists.{outcome-ok, outcome-no}
 use Rattle.keyloop.specs.declared.turn.InputResult.{InputResult}
 use Rattle.keyloop.specs.View.{linkNavigator, resultBy}

@@ -5,7 +5,7 @@ use lib.ListN.{length}
 use Rattle.rules.specs.KeyLoop.{Input, inputKey}
 use borrow.Author.Needs.{needs}
 use Rattle.keyparts.specs.View.{graphIn}
-use Rattle.keypairs.specs.View.{tablesIn}
+use Rattle.keytables.specs.View.{tablesIn}
 use Rattle.keyloop.proofs.Navigators.{index-leads}
 use Rattle.keymachine.specs.View.{machineBy}
 use Rattle.keymachine.proofs.Calls.{press-refused, press-done}

@@ -1,7 +1,8 @@
 -- The pushes stop at a refusal, and else the next mode is entered from what they left.
 use mathlib.Core.Path.{sym, _∙_}
 use Rattle.keyvalues.specs.View.{maybeOf}
-use Rattle.keypairs.specs.View.{tablesIn, actionsBy, contextOf, pairsOf, trackersOf}
+use Rattle.keytables.specs.View.{tablesIn, actionsBy}
+use Rattle.keypairs.specs.View.{contextOf, pairsOf, trackersOf}
 use Rattle.keypairs.proofs.Lists.{outcome-ok, outcome-no}
 use Rattle.keypairs.proofs.Modes.{give-goto-stop, give-goto-on}
 use borrow.Author.Needs.{needs}

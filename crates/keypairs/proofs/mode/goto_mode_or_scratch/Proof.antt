@@ -1,6 +1,7 @@
 -- One `take` gives the context of all the pushes of the enter list, and the place is the mode's root.
 use mathlib.Core.Path.{refl, sym, _∙_}
-use Rattle.keypairs.specs.View.{tablesIn, entryBy, contextOf, pairsOf, trackersOf}
+use Rattle.keytables.specs.View.{tablesIn, entryBy}
+use Rattle.keypairs.specs.View.{contextOf, pairsOf, trackersOf}
 use Rattle.keypairs.proofs.Lists.{outcome-ok, outcome-no}
 use Rattle.keypairs.proofs.Modes.{goto-is}
 use borrow.Author.Needs.{needs}

@@ -2,7 +2,7 @@
 use Prim.Native.Nat.{ℕ, min}
 use mathlib.Core.Path.{_≡_, _∙_}
 use Rattle.keyvalues.specs.View.{sizesIn, modeWords}
-use Rattle.keypairs.specs.View.{entryBy, tablesIn}
+use Rattle.keytables.specs.View.{entryBy, tablesIn}
 use Rattle.keypairs.proofs.Modes.{entry-in, entry-out}
 use borrow.Author.Needs.{needs}
 use Rattle.keypairs.proofs.mode.mode_entry.Statement.{statement}

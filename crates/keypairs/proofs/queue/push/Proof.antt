@@ -2,7 +2,8 @@
 use mathlib.Core.Path.{sym, _∙_}
 use lib.ListN.{length-set}
 use Rattle.keyvalues.specs.View.{outcome}
-use Rattle.keypairs.specs.View.{trackersOf, tablesIn, pairBy}
+use Rattle.keytables.specs.View.{tablesIn}
+use Rattle.keypairs.specs.View.{trackersOf, pairBy}
 use Rattle.keypairs.proofs.Lists.{outcome-ok, outcome-no}
 use Rattle.keypairs.proofs.Pushes.{push-refused, push-room, push-full}
 use borrow.Author.Needs.{needs}

@@ -7,7 +7,8 @@ use borrow.Author.Needs.{needs}
 use Rattle.rules.specs.Values.{Context}
 use Rattle.keyvalues.specs.View.{outcome}
 use Rattle.rules.specs.KeyLoop.{pushAll}
-use Rattle.keypairs.specs.View.{contextOf, actionsBy, pairsOf, trackersOf, tablesIn, shared}
+use Rattle.keytables.specs.View.{actionsBy, tablesIn}
+use Rattle.keypairs.specs.View.{contextOf, pairsOf, trackersOf, shared}
 use Rattle.keypairs.proofs.Lists.{outcome-ok, outcome-no}
 use Rattle.keypairs.proofs.Pushes.{all-on, all-stop, all-end}
 use Rattle.keypairs.proofs.queue.push_all.Statement.{statement}
@@ -32,8 +33,8 @@ least-requires c κs = search needs
 loop-holds : tie.Need-loop-holds Inv-loop μ-loop
 loop-holds c = (c .before .pre .1, c .before .pre .2, search needs, λ x tr. refl)
 
-pair-requires : tie.Need-pair-requires Inv-loop μ-loop
-pair-requires c κs = search needs
+pair-of-requires : tie.Need-pair-of-requires Inv-loop μ-loop
+pair-of-requires c κs = search needs
 
 push-requires : tie.Need-push-requires Inv-loop μ-loop
 push-requires c κs = search needs
@@ -42,7 +43,7 @@ returns : tie.Need-returns Inv-loop μ-loop
 returns c = let a = c .before .before .before .before .before .before .before .before .before .args in let l = c .before .before .before .before .before .before .before .loop in let r = c .before .before .push in let s = c .before .before .before .before .before .before .before .before .before .args .actions in (
   r .ensures .0,
   λ x tr. outcome-no (r .result .refusal) _ (c .if1 .taken)
-      ∙ sym (l .inv .3 x tr ∙ all-stop (s .items) (s .count) (c .before .before .before .before .before .before .before .before .least .result) (l .i) (contextOf (a .context)) (shared (tablesIn (a .tables .now)) (a .mode) x (pairsOf (l .held) (l .queue)) tr (trackersOf (l .sequences))) (l .inv .2) (c .before .before .before .before .before .before .before .before .least .ensures) _ (c .before .before .before .before .before .before .loop-test .taken) (c .before .before .before .before .before .pair .ensures) (r .result .refusal)
+      ∙ sym (l .inv .3 x tr ∙ all-stop (s .items) (s .count) (c .before .before .before .before .before .before .before .before .least .result) (l .i) (contextOf (a .context)) (shared (tablesIn (a .tables .now)) (a .mode) x (pairsOf (l .held) (l .queue)) tr (trackersOf (l .sequences))) (l .inv .2) (c .before .before .before .before .before .before .before .before .least .ensures) _ (c .before .before .before .before .before .before .loop-test .taken) (c .before .before .before .before .before .pair-of .ensures) (r .result .refusal)
       (sym (outcome-no (r .result .refusal) _ (c .if1 .taken)) ∙ r .ensures .1 x tr)),
 )
 
@@ -57,7 +58,7 @@ loop-again c = let a = c .before .before .before .before .before .before .before
   r .ensures .0 .0,
   r .ensures .0 .1,
   l .inv .2,
-  λ x tr. l .inv .3 x tr ∙ all-on (s .items) (s .count) (c .before .before .before .before .before .before .before .before .least .result) (l .i) (contextOf (a .context)) (shared (tablesIn (a .tables .now)) (a .mode) x (pairsOf (l .held) (l .queue)) tr (trackersOf (l .sequences))) (l .inv .2) (c .before .before .before .before .before .before .before .before .least .ensures) _ (c .before .before .before .before .before .before .loop-test .taken) (c .before .before .before .before .before .pair .ensures) _
+  λ x tr. l .inv .3 x tr ∙ all-on (s .items) (s .count) (c .before .before .before .before .before .before .before .before .least .result) (l .i) (contextOf (a .context)) (shared (tablesIn (a .tables .now)) (a .mode) x (pairsOf (l .held) (l .queue)) tr (trackersOf (l .sequences))) (l .inv .2) (c .before .before .before .before .before .before .before .before .least .ensures) _ (c .before .before .before .before .before .before .loop-test .taken) (c .before .before .before .before .before .pair-of .ensures) _
       (sym (outcome-ok (r .result .refusal) _ (c .if1 .left)) ∙ r .ensures .1 x tr),
 )
 
@@ -75,7 +76,7 @@ push-all-spec =
     cast-least
     least-requires
     loop-holds
-    pair-requires
+    pair-of-requires
     push-requires
     returns
     add-i

@@ -4,7 +4,8 @@ use native.Mathlib.Omega.{arith}
 use mathlib.Core.Path.{_≡_, refl, _∙_}
 use Rattle.rules.specs.Tables.{matches}
 use Rattle.rules.specs.KeyLoop.{track}
-use Rattle.keypairs.specs.View.{trackersOf, ruleBy, statusBy}
+use Rattle.keytables.specs.View.{ruleBy}
+use Rattle.keypairs.specs.View.{trackersOf, statusBy}
 use Rattle.keypairs.proofs.Sequences.{rule-in, rule-out, block-long}
 use Rattle.keyvalues.specs.View.{outcome}
 use borrow.Author.Needs.{needs}

@@ -7,7 +7,8 @@ use borrow.Author.Needs.{needs}
 use Rattle.rules.specs.Tables.{Rule}
 use Rattle.rules.specs.KeyLoop.{applyRule, applyRules}
 use Rattle.keyvalues.specs.View.{outcome, sizesIn, ruleWords}
-use Rattle.keypairs.specs.View.{pairOf, trackersOf, ruleOf, rulesOf, tablesIn}
+use Rattle.keytables.specs.View.{ruleOf, rulesOf, tablesIn}
+use Rattle.keypairs.specs.View.{pairOf, trackersOf}
 use Rattle.keypairs.proofs.Lists.{outcome-ok, outcome-no}
 use Rattle.keypairs.proofs.Sequences.{rules-on, rules-stop, rules-end, rules-word, rules-long}
 use Rattle.keypairs.proofs.rule.apply_rules.Statement.{statement}

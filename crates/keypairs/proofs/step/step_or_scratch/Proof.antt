@@ -2,7 +2,8 @@
 use lib.ListN.{length}
 use mathlib.Core.Path.{_≡_, refl}
 use Rattle.keyvalues.specs.View.{outcome, stepOf}
-use Rattle.keypairs.specs.View.{tablesIn, stateOf}
+use Rattle.keytables.specs.View.{tablesIn}
+use Rattle.keypairs.specs.View.{stateOf}
 use Rattle.keypairs.proofs.Modes.{step-idle, step-goes}
 use borrow.Author.Needs.{needs}
 use Rattle.keypairs.proofs.step.step_or_scratch.Statement.{statement}

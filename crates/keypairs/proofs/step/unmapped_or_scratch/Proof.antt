@@ -4,7 +4,8 @@ use Rattle.rules.specs.Graph.{Node}
 use Rattle.rules.specs.Calls.{graphNavigator}
 use Rattle.keyvalues.specs.View.{nodeOf, nodesOf, graphBy}
 use Rattle.keyparts.specs.View.{headWords, actWords}
-use Rattle.keypairs.specs.View.{tablesIn, entryBy, stateOf}
+use Rattle.keytables.specs.View.{tablesIn, entryBy}
+use Rattle.keypairs.specs.View.{stateOf}
 use Rattle.keypairs.proofs.Modes.{unmapped-is}
 use borrow.Author.Needs.{needs}
 use Rattle.keypairs.proofs.step.unmapped_or_scratch.Statement.{statement}

@@ -7,7 +7,7 @@ use Rattle.rules.specs.Calls.{Machine, graphKind, fresh}
 use Rattle.rules.specs.MapFile.{readBindings, readMachine, readMap}
 use Rattle.keyvalues.specs.View.{resultBy}
 use Rattle.keyparts.specs.View.{graphIn}
-use Rattle.keypairs.specs.View.{tablesIn}
+use Rattle.keytables.specs.View.{tablesIn}
 use Rattle.mapfile.specs.View.{machineBy, mapOf}
 use Rattle.mapfile.proofs.Bindings.{comes-refused, comes-at, come-from, file, from-fresh, map-refused, map-ended, told-of, not-refused}
 use borrow.Author.Needs.{needs}

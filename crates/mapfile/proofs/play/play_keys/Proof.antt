@@ -9,7 +9,8 @@ use lib.ListN.{length, take}
 use Rattle.rules.specs.Basics.{accept}
 use Rattle.rules.specs.Run.{readKeys}
 use Rattle.keyparts.specs.View.{graphIn}
-use Rattle.keypairs.specs.View.{tablesIn, stateOf}
+use Rattle.keytables.specs.View.{tablesIn}
+use Rattle.keypairs.specs.View.{stateOf}
 use Rattle.mapparts.specs.View.{readOf}
 use Rattle.mapparts.proofs.KeyBytes.{onward}
 use Rattle.mapfile.proofs.Playing.{Playing, starts, played-all, played-bad, key-refused, key-full, key-played}

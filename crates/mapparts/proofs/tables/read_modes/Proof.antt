@@ -6,7 +6,7 @@ use mathlib.Core.List.{map}
 use lib.ListN.{length, take, length-set}
 use Rattle.rules.specs.Values.{modeCount}
 use Rattle.rules.specs.MapFile.{readMode}
-use Rattle.keypairs.specs.View.{entryOf, blocks}
+use Rattle.keytables.specs.View.{entryOf, blocks}
 use Rattle.mapparts.specs.View.{placeOf}
 use Rattle.mapparts.proofs.Reading.{Left, left-all}
 use Rattle.mapparts.proofs.Parts.{list-read}

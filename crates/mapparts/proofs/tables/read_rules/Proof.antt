@@ -6,7 +6,7 @@ use mathlib.Core.List.{map}
 use lib.ListN.{length, take, length-set}
 use Rattle.rules.specs.Values.{mostRules}
 use Rattle.rules.specs.MapFile.{readRule}
-use Rattle.keypairs.specs.View.{ruleOf}
+use Rattle.keytables.specs.View.{ruleOf}
 use Rattle.mapparts.specs.View.{placeOf}
 use Rattle.mapparts.proofs.Reading.{Left, left-all}
 use Rattle.mapparts.proofs.Parts.{stored, list-read}

@@ -1,5 +1,5 @@
 -- The three tables, read in a row, and then put in their places in one array.
-use Rattle.keypairs.proofs.Packs.{tables-from}
+use Rattle.keytables.proofs.Packs.{tables-from}
 use Rattle.mapparts.proofs.Reading.{as-made}
 use Rattle.mapparts.proofs.Rows.{tables-read}
 use borrow.Author.Needs.{needs}

@@ -2,7 +2,8 @@
 use Rattle.rules.specs.Values.{noContext}
 use Rattle.rules.specs.KeyLoop.{noTracker, freshShared}
 use Rattle.rules.specs.Calls.{fresh, graphNavigator}
-use Rattle.keypairs.specs.View.{trackerOf, blocks}
+use Rattle.keytables.specs.View.{blocks}
+use Rattle.keypairs.specs.View.{trackerOf}
 use borrow.Author.Needs.{needs}
 use Rattle.keymachine.proofs.live.Live.fresh.Statement.{statement}
 use Rattle.keymachine.proofs.live.Live.fresh.Tie as tie

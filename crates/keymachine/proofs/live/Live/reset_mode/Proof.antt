@@ -2,7 +2,8 @@
 use mathlib.Core.Path.{_≡_}
 use lib.ListN.{length, take}
 use Rattle.keyvalues.specs.View.{outcome}
-use Rattle.keypairs.specs.View.{stateOf, tablesIn, contextOf, pairsOf, trackersOf}
+use Rattle.keytables.specs.View.{tablesIn}
+use Rattle.keypairs.specs.View.{stateOf, contextOf, pairsOf, trackersOf}
 use Rattle.keymachine.specs.View.{machineBy}
 use Rattle.keymachine.proofs.Calls.{reset-refused, reset-done, reset-is}
 use borrow.Author.Needs.{needs}

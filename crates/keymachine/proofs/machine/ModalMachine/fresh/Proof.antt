@@ -3,7 +3,7 @@ use mathlib.Core.Path.{_∙_}
 use Rattle.rules.specs.Tables.{noTables}
 use Rattle.rules.specs.Calls.{fresh}
 use Rattle.keyvalues.specs.View.{sizesIn}
-use Rattle.keypairs.specs.View.{tablesIn}
+use Rattle.keytables.specs.View.{tablesIn}
 use borrow.Author.Needs.{needs}
 use Rattle.keymachine.proofs.machine.ModalMachine.fresh.Statement.{statement}
 use Rattle.keymachine.proofs.machine.ModalMachine.fresh.Tie as tie

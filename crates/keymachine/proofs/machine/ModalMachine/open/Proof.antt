@@ -2,8 +2,8 @@
 use mathlib.Core.Path.{refl, _∙_}
 use Rattle.rules.specs.Tables.{tablesValid}
 use Rattle.rules.specs.Calls.{fresh}
-use Rattle.keypairs.specs.View.{wholeTables, tablesIn}
-use Rattle.keypairs.proofs.Packs.{packed-valid, packed-words}
+use Rattle.keytables.specs.View.{wholeTables, tablesIn}
+use Rattle.keytables.proofs.Packs.{packed-valid, packed-words}
 use Rattle.keymachine.specs.View.{machineOf}
 use Rattle.keymachine.proofs.Calls.{opened, not-opened}
 use borrow.Author.Needs.{needs}

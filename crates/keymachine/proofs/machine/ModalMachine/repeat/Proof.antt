@@ -1,6 +1,6 @@
 -- The live state answers, and all else of the machine stays.
 use Rattle.keyparts.specs.View.{graphOf}
-use Rattle.keypairs.specs.View.{tablesIn}
+use Rattle.keytables.specs.View.{tablesIn}
 use borrow.Author.Needs.{needs}
 use Rattle.keymachine.proofs.machine.ModalMachine.repeat.Statement.{statement}
 use Rattle.keymachine.proofs.machine.ModalMachine.repeat.Tie as tie
