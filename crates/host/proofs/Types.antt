@@ -31,7 +31,7 @@ use Rattle.keymachine.proofs.live.Pressed.Laws as Pressed′
 use Rattle.keymachine.proofs.live.Waiting as Waiting
 use Rattle.keymachine.proofs.live.Waiting.Laws as Waiting′
 use Rattle.keyparts.proofs.graph.Graph as Graph
-use Rattle.keygraph.proofs.added.Added as Added
+use Rattle.keygraph.proofs.added.GraphResult as GraphResult
 use Rattle.keymachine.proofs.machine.Map as Map
 use Rattle.keymachine.proofs.machine.ModalMachine as ModalMachine
 use Rattle.keymachine.proofs.machine.CallResult as CallResult
@@ -137,7 +137,7 @@ the-counts = the-graph then field-of graph-fields 1 tt
 
 -- ---- what the calls by value hand back: the new part, and the answer
 abbrev pub added : Struct (graph ∷ answer ∷ [])
-added = record { name = Added.the-type .name; Value = Added.the-type .D; to = λ x. (x .graph, (x .answer, tt)); from = λ t. record { graph = t .0; answer = t .1 .0 }; to-from = λ t. refl; to-one = Added.the-type .to-one }
+added = record { name = GraphResult.the-type .name; Value = GraphResult.the-type .D; to = λ x. (x .graph, (x .answer, tt)); from = λ t. record { graph = t .0; answer = t .1 .0 }; to-from = λ t. refl; to-one = GraphResult.the-type .to-one }
 
 abbrev pub called : Struct (machine ∷ answer ∷ [])
 called = record { name = CallResult.the-type .name; Value = CallResult.the-type .D; to = λ x. (x .machine, (x .answer, tt)); from = λ t. record { machine = t .0; answer = t .1 .0 }; to-from = λ t. refl; to-one = CallResult.the-type .to-one }

@@ -9,7 +9,7 @@ use Rattle.keyvalues.specs.declared.path.EdgePath.{EdgePath}
 use Rattle.keyvalues.specs.declared.path.EdgePathPart.{EdgePathPart}
 use Rattle.keyvalues.specs.declared.event.EdgeRepeat.the-variants.{Once}
 use Rattle.keyvalues.specs.declared.event.EdgeEvent.the-variants.{Key}
-use Rattle.keygraph.specs.declared.added.Added.{Added}
+use Rattle.keygraph.specs.declared.added.GraphResult.{GraphResult}
 
 -- ---- paths
 
@@ -18,5 +18,5 @@ partAt p i = getD (p .parts) i (record { repeat = Once; event = Key 0 })
 
 -- ---- answers
 
-abbrev pub addedOf : Added → g.Graph × c.Answer
+abbrev pub addedOf : GraphResult → g.Graph × c.Answer
 addedOf r = (graphOf (r .graph), answerOf (r .answer))

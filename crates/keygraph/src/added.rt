@@ -14,34 +14,32 @@ pub struct AddResult {
 }
 
 // The graph after a call by value, and the call's answer.
-pub struct Added {
+pub struct GraphResult {
     pub graph: Graph,
     pub answer: Answer,
 }
 
-impl Added {
-    // The graph after a call in place on a copy of its words. Refused, the graph is the one before.
-    pub(crate) fn settled(graph: Graph, words: [u64; Graph::WORDS], r: AddResult) -> Added
+impl GraphResult {
+    // The graph after a call in place on a copy of its words. Refused, the graph is the one before. It is put back into the
+    // variable that has the words, for which the compiler needs no copy of the graph; chosen from two, it makes one.
+    pub(crate) fn settled(graph: Graph, words: [u64; Graph::WORDS], r: AddResult) -> GraphResult
         ensures { λ a. ⌜ addedOf a ≡ settled (graphOf graph) (resultBy (r .answer) (graphIn words (r .counts))) ⌝ }
     {
         let answer = r.answer;
         let counts = r.counts;
+        let mut after = Graph {
+            words: words,
+            counts: counts,
+        };
         match answer {
-            Answer::Accepted => {
-                return Added {
-                    graph: Graph {
-                        words: words,
-                        counts: counts,
-                    },
-                    answer: answer,
-                };
+            Answer::Accepted => {}
+            Answer::Refused(_) => {
+                after = graph;
             }
-            Answer::Refused(n) => {
-                return Added {
-                    graph: graph,
-                    answer: answer,
-                };
-            }
+        }
+        GraphResult {
+            graph: after,
+            answer: answer,
         }
     }
 }

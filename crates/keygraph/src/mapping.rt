@@ -1,6 +1,6 @@
 // Adding a mapping, in place and by value.
 use crate::added::AddResult;
-use crate::added::Added;
+use crate::added::GraphResult;
 use crate::cursor::Cursor;
 use crate::repeat;
 use keyparts::graph::Counts;
@@ -180,10 +180,10 @@ pub fn add_mapping_or_scratch(
 }
 
 // A mapping more, by value. Refused, the graph is the one before.
-pub fn add_mapping(graph: Graph, mode: u16, path: EdgePath, step: Step) -> Added
+pub fn add_mapping(graph: Graph, mode: u16, path: EdgePath, step: Step) -> GraphResult
     ensures { λ r. ⌜ addedOf r ≡ settled (graphOf graph) (b.unless (v.mapValid mode (wholePath path) (wholeStep step)) 1 (g.addMapping mode (wholePath path) (wholeStep step) (graphOf graph))) ⌝ }
 {
     let mut words = graph.words;
     let r = add_mapping_or_scratch(&mut words, graph.counts, mode, path, step);
-    Added::settled(graph, words, r)
+    GraphResult::settled(graph, words, r)
 }

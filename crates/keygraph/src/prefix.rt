@@ -1,6 +1,6 @@
 // Adding a prefix, in place and by value. A prefix may have a step: `chosen` says so, and else the step beside it is not looked at.
 use crate::added::AddResult;
-use crate::added::Added;
+use crate::added::GraphResult;
 use crate::cursor::Cursor;
 use crate::repeat;
 use keyparts::graph::Counts;
@@ -242,10 +242,10 @@ pub fn add_prefix_or_scratch(
 }
 
 // A prefix more, by value; `chosen`: it has the step. Refused, the graph is the one before.
-pub fn add_prefix(graph: Graph, mode: u16, path: EdgePath, chosen: bool, step: Step) -> Added
+pub fn add_prefix(graph: Graph, mode: u16, path: EdgePath, chosen: bool, step: Step) -> GraphResult
     ensures { λ r. ⌜ addedOf r ≡ settled (graphOf graph) (b.unless (v.prefixValid mode (wholePath path) (chosenOf chosen (wholeStep step))) 1 (g.addPrefix mode (wholePath path) (chosenOf chosen (wholeStep step)) (graphOf graph))) ⌝ }
 {
     let mut words = graph.words;
     let r = add_prefix_or_scratch(&mut words, graph.counts, mode, path, chosen, step);
-    Added::settled(graph, words, r)
+    GraphResult::settled(graph, words, r)
 }

@@ -146,25 +146,16 @@ impl ModalMachine {
     pub fn input_key(self, key: u16, budget: u16) -> KeyResult
         ensures { λ r. ⌜ (machineOf (r .machine), pressOf (r .answer)) ≡ call graphKind (machineOf self) (Press (record { key = key; budget = budget })) ⌝ }
     {
-        // Taken apart down to the words: of a struct that is lent from, the compiler keeps a second copy.
-        let words = self.map.graph.words;
+        let mut m = self;
         let counts = self.map.graph.counts;
         let tables = self.map.tables;
         let live = self.live;
-        let r = live::input_key(&words, counts, tables, live, key, budget);
+        let r = live::input_key(&m.map.graph.words, counts, tables, live, key, budget);
         let next = r.live;
         let answer = r.answer;
+        m.live = next;
         KeyResult {
-            machine: ModalMachine {
-                map: Map {
-                    graph: Graph {
-                        words: words,
-                        counts: counts,
-                    },
-                    tables: tables,
-                },
-                live: next,
-            },
+            machine: m,
             answer: answer,
         }
     }

@@ -153,20 +153,12 @@ impl Tables {
     pub fn empty() -> Tables
         ensures { λ r. ⌜ wholeTables r ≡ t.noTables ⌝ }
     {
-        let actions = Actions {
-            items: [0u16; Step::ACTIONS as usize],
-            count: 0,
-        };
         let class = ClassEntry {
             class: 0,
             low: 0,
             high: 0,
         };
-        let mode = ModeEntry {
-            enter: actions,
-            unmapped: actions,
-            next: Maybe::Nothing,
-        };
+        let mode = ModeEntry::empty();
         let rule = Rule {
             mode: 0,
             low: 0,

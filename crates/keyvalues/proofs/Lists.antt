@@ -12,24 +12,21 @@ map-set f [] i a = refl
 map-set f (x ∷ l) zero a = refl
 map-set f (x ∷ l) (suc i) a = ap (λ (r : List _). f x ∷ r) (map-set f l i a)
 
--- a loop over a view goes from an element to the next
-module _ {A B : Type 0} (f : A → B) (m : ℕ) (ys : List A) (d : A) (i n : ℕ) (e : n ≡ min m (length ys)) where
-  pub view-cons : i < n → map f (drop i (take m ys)) ≡ f (getD ys i d) ∷ map f (drop (i + 1) (take m ys))
-  view-cons h =
+-- a loop over the front of a list goes from an element to the next
+module _ {A : Type 0} (m : ℕ) (ys : List A) (d : A) (i n : ℕ) (e : n ≡ min m (length ys)) where
+  pub list-cons : i < n → drop i (take m ys) ≡ getD ys i d ∷ drop (i + 1) (take m ys)
+  list-cons h =
       let l : i < length (take m ys) = omega (arith, length-take m ys) in
       let k : i < m = omega arith in
       rw (add-one, drop-cons (take m ys) i d l, getD-take m ys i d k)
 
-  pub view-nil : n ≤ i → map f (drop i (take m ys)) ≡ []
-  view-nil h = let l : length (take m ys) ≤ i = omega (arith, length-take m ys) in rw (drop-of-length-le (take m ys) l)
-
--- the same for a list of numbers as it stands
-module _ (m : ℕ) (ys : List ℕ) (i n : ℕ) (e : n ≡ min m (length ys)) where
-  pub list-cons : i < n → drop i (take m ys) ≡ getD ys i 0 ∷ drop (i + 1) (take m ys)
-  list-cons h =
-      let l : i < length (take m ys) = omega (arith, length-take m ys) in
-      let k : i < m = omega arith in
-      rw (add-one, drop-cons (take m ys) i 0 l, getD-take m ys i 0 k)
-
   pub list-nil : n ≤ i → drop i (take m ys) ≡ []
   list-nil h = let l : length (take m ys) ≤ i = omega (arith, length-take m ys) in rw (drop-of-length-le (take m ys) l)
+
+-- and so does one over a view of it
+module _ {A B : Type 0} (f : A → B) (m : ℕ) (ys : List A) (d : A) (i n : ℕ) (e : n ≡ min m (length ys)) where
+  pub view-cons : i < n → map f (drop i (take m ys)) ≡ f (getD ys i d) ∷ map f (drop (i + 1) (take m ys))
+  view-cons h = ap (map f) (list-cons m ys d i n e h)
+
+  pub view-nil : n ≤ i → map f (drop i (take m ys)) ≡ []
+  view-nil h = ap (map f) (list-nil m ys d i n e h)

@@ -35,7 +35,7 @@ element-copy-out-if1 c = search needs
 returns : tie.Need-returns Inv-loop μ-loop
 unfolding some-of stepOf
 returns c = let k = c .before .before .before in let l = k .before in let a = l .before .args in let s = a .t1 in let z : length (s .actions) ≡ 4 = search needs in
-    sym (k .loop .inv .1 ∙ rw (list-cons (s .count) (s .actions) (k .loop .i) (l .least .result) (rw z (l .least .ensures)) (search needs), eq-eqb (a .action) _ (sym (c .if1 .taken))))
+    sym (k .loop .inv .1 ∙ rw (list-cons (s .count) (s .actions) 0 (k .loop .i) (l .least .result) (rw z (l .least .ensures)) (search needs), eq-eqb (a .action) _ (sym (c .if1 .taken))))
 
 add-i : tie.Need-add-i Inv-loop μ-loop
 add-i c = search needs
@@ -46,12 +46,12 @@ loop-less c = search needs
 loop-again : tie.Need-loop-again Inv-loop μ-loop
 unfolding some-of stepOf
 loop-again c = let k = c .before .before .before in let l = k .before in let a = l .before .args in let s = a .t1 in let z : length (s .actions) ≡ 4 = search needs in
-    (search needs, k .loop .inv .1 ∙ rw (list-cons (s .count) (s .actions) (k .loop .i) (l .least .result) (rw z (l .least .ensures)) (search needs), ne-eqb (a .action) _ (λ q. c .if1 .left (sym q))))
+    (search needs, k .loop .inv .1 ∙ rw (list-cons (s .count) (s .actions) 0 (k .loop .i) (l .least .result) (rw z (l .least .ensures)) (search needs), ne-eqb (a .action) _ (λ q. c .if1 .left (sym q))))
 
 returns-2 : tie.Need-returns-2 Inv-loop μ-loop
 unfolding some-of stepOf
 returns-2 c = let k = c .before in let l = k .before in let a = l .before .args in let s = a .t1 in let z : length (s .actions) ≡ 4 = search needs in
-    sym (k .loop .inv .1 ∙ rw (list-nil (s .count) (s .actions) (k .loop .i) (l .least .result) (rw z (l .least .ensures)) (search needs)))
+    sym (k .loop .inv .1 ∙ rw (list-nil (s .count) (s .actions) 0 (k .loop .i) (l .least .result) (rw z (l .least .ensures)) (search needs)))
 
 pub has-spec : {M : Type 1} → statement M
 has-spec =
