@@ -20,8 +20,8 @@ pub struct GraphResult {
 }
 
 impl GraphResult {
-    // The graph after a call in place on a copy of its words. Refused, the graph is the one before. It is put back into the
-    // variable that has the words, for which the compiler needs no copy of the graph; chosen from two, it makes one.
+    // The graph after a call in place on a copy of its words. Refused, the graph is the one before. It is put back over the
+    // words, since of two graphs to choose from the compiler would keep a copy of both, accepted or not.
     pub(crate) fn settled(graph: Graph, words: [u64; Graph::WORDS], r: AddResult) -> GraphResult
         ensures { λ a. ⌜ addedOf a ≡ settled (graphOf graph) (resultBy (r .answer) (graphIn words (r .counts))) ⌝ }
     {

@@ -1,6 +1,6 @@
 -- Tables that a caller hands over: their words, their ranges, and the loops that test an entry and pack it.
 use Prim.Native.Nat.{ℕ, _+_, _-_, _*_, _/_, _%_, _≤_, _<_}
-use mathlib.Core.Path.{_≡_, refl, ap, _∙_}
+use mathlib.Core.Path.{_≡_, refl, sym, ap, _∙_}
 use mathlib.Core.Bool.{Bool, true, false}
 use mathlib.Core.List.{List, [], _∷_, map, map-append}
 use native.Mathlib.Omega.{arith}
@@ -15,7 +15,7 @@ use Rattle.rules.specs.Tables.{ModeEntry, Rule, Tables, classValid, modeValid, 
 use Rattle.rules.proofs.Tests.{and-l, and-r}
 use Rattle.keyvalues.specs.View.{fourOf, optOf, maybeOf, fit, classesOf, sizesIn, classWords, modeWords, ruleWords}
 use Rattle.keyvalues.specs.declared.tables.Sizes.{Sizes}
-use Rattle.keyvalues.proofs.Ranges.{take-map, fit-take, fit-length}
+use Rattle.keyvalues.proofs.Ranges.{view-count, take-map, fit-take, fit-length}
 use Rattle.keytables.specs.declared.tables.ModeEntry as entry
 use Rattle.keytables.specs.declared.tables.Tables as declared
 use Rattle.keytables.specs.declared.rule.Rule as rule
@@ -73,35 +73,38 @@ entry-is e a u p v la lu ea eu ep =
     let n : e .unmapped .count ≤ length (e .unmapped .items) = omega (arith, k .1) in
     rw (x, y, z, w, ea, eu, ep, fit-take 0 (e .enter .count) (e .enter .items) m, fit-take 0 (e .unmapped .count) (e .unmapped .items) n)
 
--- ---- a loop over entries
+-- ---- a loop that tests entries and packs them
 
-module _ {A : Type 0} (p : A → Bool) (l : List A) (i : ℕ) where
-  pub every-on : (d : A) → i < length l → p (getD l i d) ≡ true → every p (drop i l) ≡ every p (drop (i + 1) l)
-  unfolding every
-  every-on d h e = rw (add-one i, drop-cons l i d h, e)
+-- After i turns the first i entries are valid, and the first i of what they are packed in, a word or a block of words, are theirs.
+module _ {A B W : Type 0} (view : A → B) (valid : B → Bool) (of : W → B) (xs : List A) (n : ℕ) where
+  abbrev pub Packing : List W → ℕ → Type 0
+  Packing ws i = (every valid (map view (take n xs)) ≡ every valid (drop i (map view (take n xs)))) × (map of (take i ws) ≡ take i (map view (take n xs)))
 
-  pub every-stop : (d : A) → i < length l → p (getD l i d) ≡ false → every p (drop i l) ≡ false
-  unfolding every
-  every-stop d h e = rw (drop-cons l i d h, e)
+  module _ (k : n ≤ length xs) (ws : List W) (i : ℕ) (is : Packing ws i) where
+    -- the entry at i, and what comes after it
+    module _ (z : A) (h : i < n) where
+      here : getD (map view (take n xs)) i (view z) ≡ view (getD xs i z)
+      here = getD-mapped view (take n xs) i (view z) z (omega (arith, length-take n xs)) ∙ ap view (getD-take n xs i z h)
 
-  pub every-end : length l ≤ i → every p (drop i l) ≡ true
-  unfolding every
-  every-end h = rw (drop-of-length-le l h)
+      there : i < length (map view (take n xs))
+      there = omega (arith, view-count view xs n k)
 
--- a word more
-pub pack-on : {A C : Type 0} (f : A → C) (ws : List A) (l : List C) (i : ℕ) (w : A) (d : C) → i < length ws → i < length l → f w ≡ getD l i d
-    → map f (take i ws) ≡ take i l → map f (take (i + 1) (set ws i w)) ≡ take (i + 1) l
-pack-on f ws l i w d h k e inv =
-    rw (add-one i, take-suc-set ws i w h, map-append f (take i ws) (w ∷ []), inv, take-suc l i d k, e)
+      pub packing-on : (w : W) → i < length ws → valid (view (getD xs i z)) ≡ true → of w ≡ view (getD xs i z) → Packing (set ws i w) (i + 1)
+      unfolding every
+      packing-on w l v e =
+          let b = ap valid here ∙ v in
+          let o = e ∙ sym here in
+          (is .0 ∙ rw (add-one i, drop-cons (map view (take n xs)) i (view z) there, b), rw (add-one i, take-suc-set ws i w l, map-append of (take i ws) (w ∷ []), is .1, take-suc (map view (take n xs)) i (view z) there, o))
 
-pub pack-end : {A C : Type 0} (f : A → C) (ws : List A) (l : List C) (i n : ℕ) → i ≡ n → length l ≤ i → map f (take i ws) ≡ take i l → map f (take n ws) ≡ l
-pack-end f ws l i n e h inv = rw (← e) (inv ∙ take-all i l h)
+      pub packing-stop : valid (view (getD xs i z)) ≡ false → false ≡ every valid (map view (take n xs))
+      unfolding every
+      packing-stop v = let b = ap valid here ∙ v in sym (is .0 ∙ rw (drop-cons (map view (take n xs)) i (view z) there, b))
 
--- the entry at i of a view
-module _ {A C : Type 0} (g : A → C) (xs : List A) (count i : ℕ) (d : C) (z : A) (h : i < count) (k : count ≤ length xs) where
-  pub view-at : getD (map g (take count xs)) i d ≡ g (getD xs i z)
-  view-at =
-      getD-mapped g (take count xs) i d z (omega (arith, length-take count xs)) ∙ ap g (getD-take count xs i z h)
+    pub packing-end : i ≡ n → (true ≡ every valid (map view (take n xs))) × (map of (take n ws) ≡ map view (take n xs))
+    unfolding every
+    packing-end e =
+        let h : length (map view (take n xs)) ≤ i = omega (arith, view-count view xs n k) in
+        (sym (is .0 ∙ rw (drop-of-length-le (map view (take n xs)) h)), ap (λ (m : ℕ). map of (take m ws)) (sym e) ∙ is .1 ∙ take-all i (map view (take n xs)) h)
 
 -- the three words of a mode
 pub three-words : (ws : List ℕ) (i a u h : ℕ) → length ws ≡ 48 → i < 16

@@ -4,23 +4,24 @@ use mathlib.Core.Path.{_≡_, refl, sym, ap, _∙_}
 use mathlib.Core.Bool.{false}
 use mathlib.Core.List.{map, List, [], _∷_}
 use native.Mathlib.Omega.{arith}
-use lib.ListN.{length, take, drop, length-set}
+use lib.ListN.{length, take, length-set}
 use borrow.Author.Needs.{needs}
-use Rattle.rules.specs.Basics.{every}
-use Rattle.rules.specs.Tables.{modeValid, ModeEntry}
+use Rattle.rules.specs.Tables.{modeValid}
 use Rattle.keyvalues.specs.declared.step.Maybe.the-variants.{Nothing}
 use Rattle.keytables.specs.declared.tables.ModeEntry as raw
 use Rattle.keytables.specs.View.{wholeEntry, entryOf, blocks}
-use Rattle.keyvalues.proofs.Ranges.{length-mapped, view-count}
+use Rattle.keyvalues.proofs.Ranges.{length-mapped}
 use Rattle.keytables.proofs.Blocks.{length-blocks}
-use Rattle.keytables.proofs.Packs.{never, every-on, every-stop, every-end, pack-on, pack-end, view-at, three-words}
+use Rattle.keytables.proofs.Packs.{never, Packing, packing-on, packing-stop, packing-end, three-words}
 use Rattle.keytables.proofs.tables.Tables.pack_modes.Statement.{statement}
 use Rattle.keytables.proofs.tables.Tables.pack_modes.Tie as tie
 
+-- the entry that a place beyond the table would have
+abbrev z : raw.ModeEntry
+z = record { enter = record { items = []; count = 0 }; unmapped = record { items = []; count = 0 }; next = Nothing }
+
 abbrev Inv-loop : tie.InvT-loop
-Inv-loop self n words₀ i₀ words i = (i ≤ n) × (length words ≡ 48) × (length (self .modes) ≡ 16)
-    × (every modeValid (map wholeEntry (take n (self .modes))) ≡ every modeValid (drop i (map wholeEntry (take n (self .modes)))))
-    × (map entryOf (take i (blocks 3 16 words)) ≡ take i (map wholeEntry (take n (self .modes))))
+Inv-loop self n words₀ i₀ words i = (i ≤ n) × (length words ≡ 48) × (length (self .modes) ≡ 16) × Packing wholeEntry modeValid entryOf (self .modes) n (blocks 3 16 words) i
 
 abbrev μ-loop : tie.MeasureT-loop
 μ-loop self n words₀ i₀ words i = n - i
@@ -29,7 +30,7 @@ cast-n : tie.Need-cast-n Inv-loop μ-loop
 cast-n c = search needs
 
 loop-holds : tie.Need-loop-holds Inv-loop μ-loop
-loop-holds c = (search needs, refl, search (needs, length-mapped), refl, refl)
+loop-holds c = (search needs, refl, search (needs, length-mapped), (refl, refl))
 
 mul-e : tie.Need-mul-e Inv-loop μ-loop
 mul-e c = search needs
@@ -83,35 +84,24 @@ loop-less : tie.Need-loop-less Inv-loop μ-loop
 loop-less c = search needs
 
 loop-again : tie.Need-loop-again Inv-loop μ-loop
-loop-again c = let l = c .before .before .before .before .before .loop in let s = c .before .before .before .before .before .before .args .t1 in let z : raw.ModeEntry = record { enter = record { items = []; count = 0 }; unmapped = record { items = []; count = 0 }; next = Nothing } in let w = c .pack .result in
-    let k : s .sizes .modes ≤ length (s .modes) = omega (arith, c .before .before .before .before .before .before .pre, l .inv .2) in
-    let h : l .i < s .sizes .modes = c .before .before .before .before .loop-test .taken in
-    let i : l .i < 16 = omega (arith, c .before .before .before .before .before .before .pre) in
-    let j : l .i < length (map wholeEntry (take (s .sizes .modes) (s .modes))) = omega (arith, view-count wholeEntry (s .modes) (s .sizes .modes) k) in
-    let b : l .i < length (blocks 3 16 (l .words)) = omega (arith, length-blocks 3 16 (l .words)) in
-    let v = view-at wholeEntry (s .modes) (s .sizes .modes) (l .i) (wholeEntry z) z h k in (
-      search needs,
-      simp length-set (l .inv .1),
-      l .inv .2,
-      l .inv .3 ∙ every-on modeValid (map wholeEntry (take (s .sizes .modes) (s .modes))) (l .i) (wholeEntry z) j (ap modeValid v ∙ sym (c .before .before .valid .ensures) ∙ c .before .if1 .taken),
-      ap (λ (y : List (List ℕ)). map entryOf (take (l .i + 1) y)) (three-words (l .words) (l .i) (w .enter) (w .unmapped) (w .head) (l .inv .1) i)
-          ∙ pack-on entryOf (blocks 3 16 (l .words)) (map wholeEntry (take (s .sizes .modes) (s .modes))) (l .i) (w .enter ∷ w .unmapped ∷ w .head ∷ []) (wholeEntry z) b j (c .pack .ensures ∙ sym v) (l .inv .4),
-    )
+loop-again c = let l = c .before .before .before .before .before .loop in let a = c .before .before .before .before .before .before in let s = a .args .t1 in let w = c .pack .result in
+    let k : s .sizes .modes ≤ length (s .modes) = omega (arith, a .pre, l .inv .2) in
+    let i : l .i < 16 = omega (arith, a .pre) in
+    let on = packing-on wholeEntry modeValid entryOf (s .modes) (s .sizes .modes) k (blocks 3 16 (l .words)) (l .i) (l .inv .3) z (c .before .before .before .before .loop-test .taken) (w .enter ∷ w .unmapped ∷ w .head ∷ [])
+    (omega (arith, length-blocks 3 16 (l .words))) (sym (c .before .before .valid .ensures) ∙ c .before .if1 .taken) (c .pack .ensures) in
+    let three = three-words (l .words) (l .i) (w .enter) (w .unmapped) (w .head) (l .inv .1) i in
+    (search needs, simp length-set (l .inv .1), l .inv .2, (on .0, ap (λ (y : List (List ℕ)). map entryOf (take (l .i + 1) y)) three ∙ on .1))
 
 returns : tie.Need-returns Inv-loop μ-loop
-returns c = let l = c .before .before .before .before .loop in let s = c .before .before .before .before .before .args .t1 in let z : raw.ModeEntry = record { enter = record { items = []; count = 0 }; unmapped = record { items = []; count = 0 }; next = Nothing } in
-    let k : s .sizes .modes ≤ length (s .modes) = omega (arith, c .before .before .before .before .before .pre, l .inv .2) in
-    let h : l .i < s .sizes .modes = c .before .before .before .loop-test .taken in
-    let j : l .i < length (map wholeEntry (take (s .sizes .modes) (s .modes))) = omega (arith, view-count wholeEntry (s .modes) (s .sizes .modes) k) in
-    let v = view-at wholeEntry (s .modes) (s .sizes .modes) (l .i) (wholeEntry z) z h k in
-    (sym (l .inv .3 ∙ every-stop modeValid (map wholeEntry (take (s .sizes .modes) (s .modes))) (l .i) (wholeEntry z) j (ap modeValid v ∙ sym (c .before .valid .ensures) ∙ c .if1 .left)), λ t. never false refl t)
+returns c = let l = c .before .before .before .before .loop in let a = c .before .before .before .before .before in let s = a .args .t1 in
+    let k : s .sizes .modes ≤ length (s .modes) = omega (arith, a .pre, l .inv .2) in
+    (packing-stop wholeEntry modeValid entryOf (s .modes) (s .sizes .modes) k (blocks 3 16 (l .words)) (l .i) (l .inv .3) z (c .before .before .before .loop-test .taken) (sym (c .before .valid .ensures) ∙ c .if1 .left), λ t. never false refl t)
 
 returns-2 : tie.Need-returns-2 Inv-loop μ-loop
-returns-2 c = let l = c .before .loop in let s = c .before .before .args .t1 in
-    let k : s .sizes .modes ≤ length (s .modes) = omega (arith, c .before .before .pre, l .inv .2) in
-    let e : l .i ≡ s .sizes .modes = omega arith in
-    let h : length (map wholeEntry (take (s .sizes .modes) (s .modes))) ≤ l .i = omega (arith, view-count wholeEntry (s .modes) (s .sizes .modes) k) in
-    (sym (l .inv .3 ∙ every-end modeValid (map wholeEntry (take (s .sizes .modes) (s .modes))) (l .i) h), λ t. pack-end entryOf (blocks 3 16 (l .words)) (map wholeEntry (take (s .sizes .modes) (s .modes))) (l .i) (s .sizes .modes) e h (l .inv .4))
+returns-2 c = let l = c .before .loop in let a = c .before .before in let s = a .args .t1 in
+    let k : s .sizes .modes ≤ length (s .modes) = omega (arith, a .pre, l .inv .2) in
+    let end = packing-end wholeEntry modeValid entryOf (s .modes) (s .sizes .modes) k (blocks 3 16 (l .words)) (l .i) (l .inv .3) (omega arith) in
+    (end .0, λ t. end .1)
 
 pub pack-modes-spec : {M : Type 1} → statement M
 pack-modes-spec =

@@ -1,24 +1,24 @@
 -- After i turns the first i rules are valid and the first i words are theirs.
 use Rattle.keytables.specs.declared.rule.Rule as raw
-use Prim.Native.Nat.{_≤_, _<_, _-_}
-use mathlib.Core.Path.{_≡_, refl, sym, ap, _∙_}
+use Prim.Native.Nat.{_≤_, _-_}
+use mathlib.Core.Path.{_≡_, refl, sym, _∙_}
 use mathlib.Core.Bool.{false}
-use mathlib.Core.List.{map}
 use native.Mathlib.Omega.{arith}
-use lib.ListN.{length, take, drop, length-set}
+use lib.ListN.{length, length-set}
 use borrow.Author.Needs.{needs}
-use Rattle.rules.specs.Basics.{every}
 use Rattle.rules.specs.Tables.{ruleValid}
 use Rattle.keytables.specs.View.{ruleBy, ruleOf}
-use Rattle.keyvalues.proofs.Ranges.{length-mapped, view-count}
-use Rattle.keytables.proofs.Packs.{never, every-on, every-stop, every-end, pack-on, pack-end, view-at}
+use Rattle.keyvalues.proofs.Ranges.{length-mapped}
+use Rattle.keytables.proofs.Packs.{never, Packing, packing-on, packing-stop, packing-end}
 use Rattle.keytables.proofs.tables.Tables.pack_rules.Statement.{statement}
 use Rattle.keytables.proofs.tables.Tables.pack_rules.Tie as tie
 
+-- the entry that a place beyond the table would have
+abbrev z : raw.Rule
+z = record { mode = 0; low = 0; high = 0; sequence = 0; status = 0 }
+
 abbrev Inv-loop : tie.InvT-loop
-Inv-loop self n words₀ i₀ words i = (i ≤ n) × (length words ≡ 64) × (length (self .rules) ≡ 64)
-    × (every ruleValid (map ruleBy (take n (self .rules))) ≡ every ruleValid (drop i (map ruleBy (take n (self .rules)))))
-    × (map ruleOf (take i words) ≡ take i (map ruleBy (take n (self .rules))))
+Inv-loop self n words₀ i₀ words i = (i ≤ n) × (length words ≡ 64) × (length (self .rules) ≡ 64) × Packing ruleBy ruleValid ruleOf (self .rules) n words i
 
 abbrev μ-loop : tie.MeasureT-loop
 μ-loop self n words₀ i₀ words i = n - i
@@ -27,7 +27,7 @@ cast-n : tie.Need-cast-n Inv-loop μ-loop
 cast-n c = search needs
 
 loop-holds : tie.Need-loop-holds Inv-loop μ-loop
-loop-holds c = (search needs, refl, search (needs, length-mapped), refl, refl)
+loop-holds c = (search needs, refl, search (needs, length-mapped), (refl, refl))
 
 mul-e : tie.Need-mul-e Inv-loop μ-loop
 mul-e c = search needs
@@ -54,32 +54,22 @@ loop-less : tie.Need-loop-less Inv-loop μ-loop
 loop-less c = search needs
 
 loop-again : tie.Need-loop-again Inv-loop μ-loop
-loop-again c = let l = c .before .before .before .before .before .loop in let s = c .before .before .before .before .before .before .args .t1 in let z : raw.Rule = record { mode = 0; low = 0; high = 0; sequence = 0; status = 0 } in
-    let k : s .sizes .rules ≤ length (s .rules) = omega (arith, c .before .before .before .before .before .before .pre, l .inv .2) in
-    let h : l .i < s .sizes .rules = c .before .before .before .before .loop-test .taken in
-    let j : l .i < length (map ruleBy (take (s .sizes .rules) (s .rules))) = omega (arith, view-count ruleBy (s .rules) (s .sizes .rules) k) in
-    let v = view-at ruleBy (s .rules) (s .sizes .rules) (l .i) (ruleBy z) z h k in (
-      search needs,
-      simp length-set (l .inv .1),
-      l .inv .2,
-      l .inv .3 ∙ every-on ruleValid (map ruleBy (take (s .sizes .rules) (s .rules))) (l .i) (ruleBy z) j (ap ruleValid v ∙ sym (c .before .before .valid .ensures) ∙ c .before .if1 .taken),
-      pack-on ruleOf (l .words) (map ruleBy (take (s .sizes .rules) (s .rules))) (l .i) (c .pack .result) (ruleBy z) (omega (arith, c .before .before .before .before .before .before .pre)) j (c .pack .ensures ∙ sym v) (l .inv .4),
-    )
+loop-again c = let l = c .before .before .before .before .before .loop in let a = c .before .before .before .before .before .before in let s = a .args .t1 in
+    let k : s .sizes .rules ≤ length (s .rules) = omega (arith, a .pre, l .inv .2) in
+    let on = packing-on ruleBy ruleValid ruleOf (s .rules) (s .sizes .rules) k (l .words) (l .i) (l .inv .3) z (c .before .before .before .before .loop-test .taken) (c .pack .result)
+    (omega (arith, a .pre)) (sym (c .before .before .valid .ensures) ∙ c .before .if1 .taken) (c .pack .ensures) in
+    (search needs, simp length-set (l .inv .1), l .inv .2, on)
 
 returns : tie.Need-returns Inv-loop μ-loop
-returns c = let l = c .before .before .before .before .loop in let s = c .before .before .before .before .before .args .t1 in let z : raw.Rule = record { mode = 0; low = 0; high = 0; sequence = 0; status = 0 } in
-    let k : s .sizes .rules ≤ length (s .rules) = omega (arith, c .before .before .before .before .before .pre, l .inv .2) in
-    let h : l .i < s .sizes .rules = c .before .before .before .loop-test .taken in
-    let j : l .i < length (map ruleBy (take (s .sizes .rules) (s .rules))) = omega (arith, view-count ruleBy (s .rules) (s .sizes .rules) k) in
-    let v = view-at ruleBy (s .rules) (s .sizes .rules) (l .i) (ruleBy z) z h k in
-    (sym (l .inv .3 ∙ every-stop ruleValid (map ruleBy (take (s .sizes .rules) (s .rules))) (l .i) (ruleBy z) j (ap ruleValid v ∙ sym (c .before .valid .ensures) ∙ c .if1 .left)), λ t. never false refl t)
+returns c = let l = c .before .before .before .before .loop in let a = c .before .before .before .before .before in let s = a .args .t1 in
+    let k : s .sizes .rules ≤ length (s .rules) = omega (arith, a .pre, l .inv .2) in
+    (packing-stop ruleBy ruleValid ruleOf (s .rules) (s .sizes .rules) k (l .words) (l .i) (l .inv .3) z (c .before .before .before .loop-test .taken) (sym (c .before .valid .ensures) ∙ c .if1 .left), λ t. never false refl t)
 
 returns-2 : tie.Need-returns-2 Inv-loop μ-loop
-returns-2 c = let l = c .before .loop in let s = c .before .before .args .t1 in
-    let k : s .sizes .rules ≤ length (s .rules) = omega (arith, c .before .before .pre, l .inv .2) in
-    let e : l .i ≡ s .sizes .rules = omega arith in
-    let h : length (map ruleBy (take (s .sizes .rules) (s .rules))) ≤ l .i = omega (arith, view-count ruleBy (s .rules) (s .sizes .rules) k) in
-    (sym (l .inv .3 ∙ every-end ruleValid (map ruleBy (take (s .sizes .rules) (s .rules))) (l .i) h), λ t. pack-end ruleOf (l .words) (map ruleBy (take (s .sizes .rules) (s .rules))) (l .i) (s .sizes .rules) e h (l .inv .4))
+returns-2 c = let l = c .before .loop in let a = c .before .before in let s = a .args .t1 in
+    let k : s .sizes .rules ≤ length (s .rules) = omega (arith, a .pre, l .inv .2) in
+    let end = packing-end ruleBy ruleValid ruleOf (s .rules) (s .sizes .rules) k (l .words) (l .i) (l .inv .3) (omega arith) in
+    (end .0, λ t. end .1)
 
 pub pack-rules-spec : {M : Type 1} → statement M
 pack-rules-spec =
