@@ -4,3 +4,4 @@ pub mod Rounds
 pub mod Stack
 pub mod Loop
 pub mod Navigators
+pub mod Words

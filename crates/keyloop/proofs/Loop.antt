@@ -48,22 +48,22 @@ pub record Round (nav : Navigator ℕ) (k : ℕ) (m m' : State ℕ) (x : InputRe
 
 -- ---- the loop's invariant. ks is the stack still to try, with the key in hand first; K is what it is to come to
 pub record Held (nav : Navigator ℕ) (B : ℕ) (K : KeyResult ℕ) (stack : List ℕ) (top r : ℕ) (ks : List ℕ) (m : State ℕ) : Type 0 where
-  pub long : length stack ≡ 130
-  pub low : top ≤ 130
+  pub long : length stack ≡ 129
+  pub low : top ≤ 129
   pub within : r ≤ B
   pub light : weight ks + weight (m .shared .trail) ≤ 130
   pub same : K ≡ loop nav (B - r) r ks m
 
-pub held-start : (nav : Navigator ℕ) (B first : ℕ) (m : State ℕ) (z : List ℕ) → length z ≡ 130 → weight (m .shared .trail) ≤ 128
-    → Held nav B (inputKey nav (record { key = first; budget = B }) m) (set z 129 first) 129 0 (drop 129 (set z 129 first)) m
+pub held-start : (nav : Navigator ℕ) (B first : ℕ) (m : State ℕ) (z : List ℕ) → length z ≡ 129 → weight (m .shared .trail) ≤ 128
+    → Held nav B (inputKey nav (record { key = first; budget = B }) m) (set z 128 first) 128 0 (drop 128 (set z 128 first)) m
 unfolding inputKey
 held-start nav B first m z e w =
-    let d : drop 129 (set z 129 first) ≡ first ∷ drop 130 z = drop-put z 130 first (omega arith) (omega arith) in
-    let l : length z ≤ 130 = omega arith in
-    let n : drop 130 z ≡ [] = drop-of-length-le z l in
-    let q : drop 129 (set z 129 first) ≡ first ∷ [] = d ∙ ap (λ (l : List ℕ). first ∷ l) n in
+    let d : drop 128 (set z 128 first) ≡ first ∷ drop 129 z = drop-put z 129 first (omega arith) (omega arith) in
+    let l : length z ≤ 129 = omega arith in
+    let n : drop 129 z ≡ [] = drop-of-length-le z l in
+    let q : drop 128 (set z 128 first) ≡ first ∷ [] = d ∙ ap (λ (l : List ℕ). first ∷ l) n in
     record {
-      long = length-set z 129 first ∙ e;
+      long = length-set z 128 first ∙ e;
       low = omega arith;
       within = zero-le;
       light = rw q (omega (arith, weight-cons splits first [], weight-nil splits));
@@ -71,14 +71,14 @@ held-start nav B first m z e w =
     }
 
 module _ {nav : Navigator ℕ} {B : ℕ} {K : KeyResult ℕ} {stack : List ℕ} {top r : ℕ} {m : State ℕ} where
-  pub held-pop : Held nav B K stack top r (drop top stack) m → top < 130 → Held nav B K stack (top + 1) r (getD stack top 0 ∷ drop (top + 1) stack) m
+  pub held-pop : Held nav B K stack top r (drop top stack) m → top < 129 → Held nav B K stack (top + 1) r (getD stack top 0 ∷ drop (top + 1) stack) m
   held-pop h l =
       let i : top < length stack = omega arith in
       let q : drop top stack ≡ getD stack top 0 ∷ drop (top + 1) stack = rw add-one (drop-cons stack top 0 i) in
       record { long = h .long; low = omega arith; within = h .within; light = rw (← q) (h .light); same = rw (← q) (h .same) }
 
   -- the top of the stack is past the end: nothing is left
-  pub held-done : Held nav B K stack top r (drop top stack) m → 130 ≤ top → K ≡ finished r m
+  pub held-done : Held nav B K stack top r (drop top stack) m → 129 ≤ top → K ≡ finished r m
   held-done h l =
       let e : length stack ≤ top = omega arith in
       let n : drop top stack ≡ [] = drop-of-length-le stack e in
@@ -93,7 +93,7 @@ module _ {nav : Navigator ℕ} {B : ℕ} {K : KeyResult ℕ} {stack : List ℕ} 
 
   module _ {k : ℕ} (h : Held nav B K stack top r (k ∷ drop top stack) m) where
     -- there is room on the stack for the trail, and for the rest of a key that decomposes
-    pub held-room : 1 + min 1 (k / 32768) + (130 - top) + length (m .shared .trail) ≤ 130
+    pub held-room : 1 + min 1 (k / 32768) + (129 - top) + length (m .shared .trail) ≤ 130
     held-room = omega (arith, h .light, h .long, weight-cons splits k (drop top stack), length-weight splits (drop top stack), length-weight splits (m .shared .trail), length-drop top stack)
 
     pub held-out : B ≤ r → K ≡ stopped r 8
@@ -105,7 +105,7 @@ module _ {nav : Navigator ℕ} {B : ℕ} {K : KeyResult ℕ} {stack : List ℕ} 
       round-is = rw (w .result, ← (w .state))
 
       go : {stack' : List ℕ} {top' : ℕ} {ls : List ℕ} {u : State ℕ} → after nav x k (drop top stack) m' ≡ accept (ls, u)
-          → length stack' ≡ 130 → top' ≤ 130 → weight ls + weight (u .shared .trail) ≤ 1 + min 1 (k / 32768) + weight (drop top stack) + weight (m' .shared .trail)
+          → length stack' ≡ 129 → top' ≤ 129 → weight ls + weight (u .shared .trail) ≤ 1 + min 1 (k / 32768) + weight (drop top stack) + weight (m' .shared .trail)
           → Held nav B K stack' top' (r + 1) ls u
       go {ls = ls} {u} e n o v =
           let q : weight (m' .shared .trail) ≡ weight (m .shared .trail) = ap weight (w .trail) in
@@ -141,7 +141,7 @@ module _ {nav : Navigator ℕ} {B : ℕ} {K : KeyResult ℕ} {stack : List ℕ} 
       unfolding after
       met-full w n = stop l w 7 (rw (le-ltb (length (m' .shared .trail)) 64 n))
 
-      pub met-big : Round nav k m m' Unmapped → 32768 ≤ k → k - 32768 < 32768 → (stack' : List ℕ) (top' : ℕ) → length stack' ≡ 130 → top' ≤ 130 → drop top' stack' ≡ (k - 32768) ∷ drop top stack
+      pub met-big : Round nav k m m' Unmapped → 32768 ≤ k → k - 32768 < 32768 → (stack' : List ℕ) (top' : ℕ) → length stack' ≡ 129 → top' ≤ 129 → drop top' stack' ≡ (k - 32768) ∷ drop top stack
           → Held nav B K stack' top' (r + 1) (27 ∷ drop top' stack') m'
       unfolding after
       met-big w n s stack' top' a b d =
@@ -149,7 +149,7 @@ module _ {nav : Navigator ℕ} {B : ℕ} {K : KeyResult ℕ} {stack : List ℕ} 
           go l w (rw (d, le-leb 32768 k n)) a b (omega arith)
 
       module _ (w : Round nav k m m' Unmapped) (n : k < 32768) where
-        pub met-unmapped : (u : State ℕ) → accept u ≡ unmapped nav (clearTrail m') → u .shared .trail ≡ [] → (stack' : List ℕ) (top' : ℕ) → length stack' ≡ 130 → top' ≤ 130
+        pub met-unmapped : (u : State ℕ) → accept u ≡ unmapped nav (clearTrail m') → u .shared .trail ≡ [] → (stack' : List ℕ) (top' : ℕ) → length stack' ≡ 129 → top' ≤ 129
             → drop top' stack' ≡ drop 1 (m' .shared .trail ++ (k ∷ [])) ++ drop top stack → Held nav B K stack' top' (r + 1) (drop top' stack') u
         unfolding after
         met-unmapped u eu z stack' top' a b d =

@@ -1,5 +1,6 @@
--- The stack of keys: the trail put back on it, and why 130 places are enough. Only what weighs more than one key decomposes,
--- and into two that weigh one each, so the weight of stack and trail never rises.
+-- The stack of keys: the trail put back on it, and why 129 places are enough. Only what weighs more than one key decomposes,
+-- and into two that weigh one each, so the weight of stack, trail and the key in hand never rises above 130; and the key in
+-- hand, which weighs one at least, is not on the stack.
 use Prim.Native.Nat.{ℕ, suc, _+_, _-_, _*_, _/_, _≤_, _<_, min}
 use mathlib.Core.Path.{_≡_, ap, _∙_}
 use mathlib.Core.List.{List, _∷_, _++_, append-assoc}
@@ -9,8 +10,8 @@ use Rattle.rules.proofs.Weights.{weightBy, weight-most, each-key}
 use Rattle.keyloop.proofs.Lists.{drop-take}
 use lib.Seq.{drop-cons, paste, length-paste, length-paste-head, set-at, drop-at, length-take-le, drop-set-lt, getD-set-same}
 
-module _ (stack trail : List ℕ) (at n key : ℕ) (es : length stack ≡ 130) (et : length trail ≡ 64) (h0 : 0 < n) (h1 : n ≤ 64) (h2 : n ≤ at) (h3 : at ≤ 130) where
-  pub back-length : (o : List ℕ) → o ≡ paste stack (at - n) (drop 1 trail) (n - 1) → length (set o (at - 1) key) ≡ 130
+module _ (stack trail : List ℕ) (at n key : ℕ) (es : length stack ≡ 129) (et : length trail ≡ 64) (h0 : 0 < n) (h1 : n ≤ 64) (h2 : n ≤ at) (h3 : at ≤ 129) where
+  pub back-length : (o : List ℕ) → o ≡ paste stack (at - n) (drop 1 trail) (n - 1) → length (set o (at - 1) key) ≡ 129
   back-length o e =
       let a : at - n + (n - 1) ≤ length stack = omega arith in
       let b : n - 1 ≤ length (drop 1 trail) = omega (arith, length-drop 1 trail) in

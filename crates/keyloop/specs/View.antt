@@ -1,5 +1,5 @@
 -- What a round and a key mean, in the values of the rules.
-use Prim.Native.Nat.{ℕ}
+use Prim.Native.Nat.{ℕ, _/_, _%_}
 use mathlib.Core.Path.{_≡_}
 use mathlib.Core.List.{List}
 use lib.ListN.{take}
@@ -17,6 +17,7 @@ use Rattle.keyloop.specs.declared.turn.InputResult.{InputResult}
 use Rattle.keyloop.specs.declared.turn.InputResult.the-variants.{Again, ClearTrail, Consumed, NeedMore, Unmapped, RunStep, RetryAfter}
 use Rattle.keyloop.specs.declared.turn.TurnResult.{TurnResult}
 use Rattle.keyloop.specs.declared.key.InputKeyResult.{InputKeyResult}
+use Rattle.keyloop.specs.declared.key.InputWordResult.{InputWordResult}
 
 -- ---- a round
 
@@ -46,3 +47,10 @@ pub record Turns (x : key.Turn ℕ) (k : ℕ) (s : State) (r : TurnResult) : Typ
 
 abbrev pub keyOf : InputKeyResult → t.Tables → List ℕ → List ℕ → List ℕ → key.KeyResult ℕ
 keyOf r t q sq tr = record { rounds = r .rounds; result = outcome (r .refusal) (stateOf (r .state) t q sq (take (r .state .trailed) tr)) }
+
+-- the state whose place, mode, count and mark are the four digits of a word, from the lowest
+unfoldable pub stateAt : ℕ → ℕ → ℕ → State
+stateAt w q n = record { place = w % 65536; mode = w / 65536 % 65536; context = record { count = w / 4294967296 % 65536; mark = w / 281474976710656 % 65536 }; queued = q; trailed = n }
+
+abbrev pub wordKeyOf : InputWordResult → t.Tables → List ℕ → List ℕ → List ℕ → key.KeyResult ℕ
+wordKeyOf r = keyOf (record { refusal = r .refusal; rounds = r .rounds; state = stateAt (r .word) (r .queued) (r .trailed) })

@@ -2,6 +2,7 @@
 // nothing. The keys still to try are a stack that grows downwards, whose top is the next one.
 use crate::turn;
 use crate::turn::InputResult;
+use crate::word;
 use keypairs::pair::Pair;
 use keypairs::state::State;
 use keypairs::step;
@@ -18,18 +19,29 @@ ghost use lib.ListN.{length, take, drop};
 ghost use Rattle.rules.specs.KeyLoop as key;
 ghost use Rattle.keytables.specs.View.{tablesIn};
 ghost use Rattle.keypairs.specs.View.{stateOf};
-ghost use Rattle.keyloop.specs.View.{linkNavigator, keyOf};
+ghost use Rattle.keyloop.specs.View.{linkNavigator, stateAt, keyOf, wordKeyOf};
 
 const TRAIL: usize = State::TRAIL as usize;
 
-// The keys of a full trail and the key in hand, each of which may decompose into two.
-const STACK: usize = 2 * (TRAIL + 1);
+// A full trail, each of whose keys may decompose into two, and one key more: the key in hand is not on the stack, and when it
+// is put there the trail has lost its first.
+const STACK: usize = 2 * TRAIL + 1;
 
 // What a key came to. Refused, `refusal` and `rounds` are all that is promised of it and of the lent arrays.
 pub struct InputKeyResult {
     pub refusal: u16,
     pub rounds: u16,
     pub state: State,
+}
+
+// The same between the loop and its callers. The loop has several callers in one archive, so it is called and not built into
+// them; numbers that are stored one by one and then loaded together make the processor wait, so four cross as one word.
+struct InputWordResult {
+    refusal: u16,
+    rounds: u16,
+    word: u64,
+    queued: u16,
+    trailed: u16,
 }
 
 fn refused(refusal: u16, rounds: u16, state: State) -> InputKeyResult
@@ -44,8 +56,8 @@ fn refused(refusal: u16, rounds: u16, state: State) -> InputKeyResult
 
 // The n keys of the trail but the first, and then the key in hand, are put on the stack.
 fn put_back(stack: &mut [u16; STACK], top: usize, trail: &[u16; TRAIL], n: usize, key: u16)
-    requires { ⌜ (0 < n) × (n ≤ 64) × (n ≤ top) × (top ≤ 130) × (length (now stack) ≡ 130) × (length (now trail) ≡ 64) ⌝ }
-    ensures { λ _. ⌜ (length (now (stack .exit)) ≡ 130) × (drop (top - n) (now (stack .exit)) ≡ drop 1 (take n (now (trail .entry))) ++ key ∷ drop top (now (stack .entry))) ⌝ }
+    requires { ⌜ (0 < n) × (n ≤ 64) × (n ≤ top) × (top ≤ 129) × (length (now stack) ≡ 129) × (length (now trail) ≡ 64) ⌝ }
+    ensures { λ _. ⌜ (length (now (stack .exit)) ≡ 129) × (drop (top - n) (now (stack .exit)) ≡ drop 1 (take n (now (trail .entry))) ++ key ∷ drop top (now (stack .entry))) ⌝ }
 {
     let base = top - n;
     let rest = n - 1;
@@ -68,7 +80,7 @@ fn rest_of(key: u16) -> u16
 // The rounds of `input_key`: the outer loop goes over the stack, and the inner one tries one key until it is consumed,
 // needs more, or is unmapped. Any links will do: following goes as they lead, and with those of an index as the edges do.
 // Refused, the lent queue, sequences and trail are scratch: the number and the rounds alone count.
-pub fn input_key_or_scratch<'a>(
+fn rounds_or_scratch<'a>(
     words: &'a [u64; Graph::WORDS],
     counts: Counts,
     links: &'a [u16; Index::LINKS],
@@ -177,5 +189,89 @@ pub fn input_key_or_scratch<'a>(
         refusal: 0,
         rounds: rounds,
         state: s,
+    }
+}
+
+// The rounds of a key, with the state at the start and at the end as a word and two numbers.
+fn input_word_or_scratch<'a>(
+    words: &'a [u64; Graph::WORDS],
+    counts: Counts,
+    links: &'a [u16; Index::LINKS],
+    tables: &'a [u64; TableWords::WORDS],
+    queue: &mut [u64; Pair::QUEUE as usize],
+    sequences: &mut [u64; SequenceTracker::ALL],
+    trail: &mut [u16; State::TRAIL as usize],
+    word: u64,
+    queued: u16,
+    trailed: u16,
+    first: u16,
+    budget: u16,
+) -> InputWordResult
+    requires { ⌜ (length (now words) ≡ 4128) × (length (now links) ≡ 2304) × (length (now tables) ≡ 131) ⌝ }
+    requires { ⌜ (length (now queue) ≡ 256) × (length (now sequences) ≡ 520) × (length (now trail) ≡ 64) ⌝ }
+    ensures { λ _. ⌜ (length (now (queue .exit)) ≡ 256) × (length (now (sequences .exit)) ≡ 520) × (length (now (trail .exit)) ≡ 64) ⌝ }
+    ensures { λ r. ⌜ wordKeyOf r (tablesIn (now (tables .entry))) (now (queue .exit)) (now (sequences .exit)) (now (trail .exit)) ≡ key.inputKey (linkNavigator (now (words .entry)) counts (now (links .entry))) (record { key = first; budget = budget }) (stateOf (stateAt word queued trailed) (tablesIn (now (tables .entry))) (now (queue .entry)) (now (sequences .entry)) (take trailed (now (trail .entry)))) ⌝ }
+{
+    let start = word::unpack(word, queued, trailed);
+    let r = rounds_or_scratch(
+        words,
+        counts,
+        links,
+        tables,
+        queue,
+        sequences,
+        trail,
+        start,
+        first,
+        budget,
+    );
+    let s = r.state;
+    InputWordResult {
+        refusal: r.refusal,
+        rounds: r.rounds,
+        word: word::pack(s),
+        queued: s.queued,
+        trailed: s.trailed,
+    }
+}
+
+// One key. Refused, the lent queue, sequences and trail are scratch: the number and the rounds alone count.
+pub fn input_key_or_scratch<'a>(
+    words: &'a [u64; Graph::WORDS],
+    counts: Counts,
+    links: &'a [u16; Index::LINKS],
+    tables: &'a [u64; TableWords::WORDS],
+    queue: &mut [u64; Pair::QUEUE as usize],
+    sequences: &mut [u64; SequenceTracker::ALL],
+    trail: &mut [u16; State::TRAIL as usize],
+    start: State,
+    first: u16,
+    budget: u16,
+) -> InputKeyResult
+    requires { ⌜ (length (now words) ≡ 4128) × (length (now links) ≡ 2304) × (length (now tables) ≡ 131) ⌝ }
+    requires { ⌜ (length (now queue) ≡ 256) × (length (now sequences) ≡ 520) × (length (now trail) ≡ 64) ⌝ }
+    ensures { λ _. ⌜ (length (now (queue .exit)) ≡ 256) × (length (now (sequences .exit)) ≡ 520) × (length (now (trail .exit)) ≡ 64) ⌝ }
+    ensures { λ r. ⌜ keyOf r (tablesIn (now (tables .entry))) (now (queue .exit)) (now (sequences .exit)) (now (trail .exit)) ≡ key.inputKey (linkNavigator (now (words .entry)) counts (now (links .entry))) (record { key = first; budget = budget }) (stateOf start (tablesIn (now (tables .entry))) (now (queue .entry)) (now (sequences .entry)) (take (start .trailed) (now (trail .entry)))) ⌝ }
+{
+    let word = word::pack(start);
+    let r = input_word_or_scratch(
+        words,
+        counts,
+        links,
+        tables,
+        queue,
+        sequences,
+        trail,
+        word,
+        start.queued,
+        start.trailed,
+        first,
+        budget,
+    );
+    let state = word::unpack(r.word, r.queued, r.trailed);
+    InputKeyResult {
+        refusal: r.refusal,
+        rounds: r.rounds,
+        state: state,
     }
 }

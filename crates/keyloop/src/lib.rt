@@ -4,3 +4,4 @@
 // What a key changes is kept in arrays of words that are lent to the functions here, so that a key copies nothing.
 pub mod key;
 mod turn;
+mod word;

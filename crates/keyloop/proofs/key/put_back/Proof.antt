@@ -11,7 +11,7 @@ use Rattle.keyloop.proofs.key.put_back.Statement.{statement}
 use Rattle.keyloop.proofs.key.put_back.Tie as tie
 
 abbrev Inv-loop : tie.InvT-loop
-Inv-loop stack₀ top trail n key base rest i₀ stack i = (i ≤ rest) × (length stack ≡ 130) × (stack ≡ paste stack₀ base (drop 1 trail) i)
+Inv-loop stack₀ top trail n key base rest i₀ stack i = (i ≤ rest) × (length stack ≡ 129) × (stack ≡ paste stack₀ base (drop 1 trail) i)
 
 abbrev μ-loop : tie.MeasureT-loop
 μ-loop stack₀ top trail n key base rest i₀ stack i = rest - i
