@@ -1,5 +1,5 @@
-// Keys in place over the map of a map file, with all their pairs, for the benchmark. It is an archive of its own, as the run
-// is: where the key loop has one caller, the compiler builds it into that one, and a key takes a fifth to a half less time.
+// Keys in place over the map of a map file, with all their pairs, for the benchmark. It is an archive of its own: where the
+// key loop has one caller, the compiler builds it into that one, and a key takes less time than in the library for C.
 //
 // An answer has how many pairs there were above 32 bits that depend on every number of every pair and on their order, so that
 // nobody times other work than the Rust's.

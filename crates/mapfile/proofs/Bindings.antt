@@ -1,27 +1,28 @@
 -- Bindings. What is added is what the rules' call comes to, and a refusal met in reading is kept; so a row of numbers with the
 -- call at its end is the rules' reading of a binding, and bindings in a row are read as the rules read them.
-use Prim.Native.Nat.{ℕ, zero, suc, _-_, _≤_, _<_}
+use Prim.Native.Nat.{ℕ, zero, suc, _-_, _<_}
 use native.Mathlib.Omega.{arith}
 use native.Mathlib.Numerals.{sub-one}
 use mathlib.Core.Path.{_≡_, refl, sym, ap, _∙_, subst}
-use mathlib.Core.Option.{none, some}
 use mathlib.Core.List.{List}
-use lib.ListN.{length, drop, replicate, drop-of-length-le}
-use lib.Seq.{drop-cons}
+use lib.Dec.{ltb}
+use lib.ListN.{drop, replicate}
+use borrow.Author.Tests.{lt-ltb}
 use Rattle.rules.specs.Basics.{Result, accept, refuse, _>>=_}
-use Rattle.rules.specs.Values.{Part, Step, isMode, mostParts}
+use Rattle.rules.specs.Values.{Part, Step, Binding}
 use Rattle.rules.specs.Graph.{Graph, freshGraph}
-use Rattle.rules.specs.Calls.{Machine, graphKind, fresh, withBindings, map-call, prefix-call}
+use Rattle.rules.specs.Calls.{Machine, graphKind, fresh, settled, withBindings, map-call, prefix-call, bind}
 use Rattle.rules.specs.Tables.{Tables, noTables}
 use Rattle.rules.specs.Numbers.{number}
-use Rattle.rules.specs.MapFile.{Reader, thenRead, lifted, such, upTo, listOf, readPart, readStep, bindBy, readBinding, readBindings, readTables, readMachine, atEnd, readMap}
-use Rattle.keyvalues.specs.View.{resultBy, outcome, sizesIn}
+use Rattle.rules.specs.MapFile.{Reader, thenRead, lifted, readBinding, readBindings, readTables, readMachine, atEnd, readMap}
+use Rattle.keyvalues.specs.View.{answerOf, resultBy, outcome, chosenOf, sizesIn}
 use Rattle.keyvalues.specs.declared.answer.Answer.{Answer}
 use Rattle.keyvalues.specs.declared.answer.Answer.the-variants.{Accepted, Refused}
 use Rattle.mapparts.specs.declared.place.FilePlace.{FilePlace}
 use Rattle.keytables.specs.View.{tablesIn}
-use Rattle.mapparts.specs.View.{placeOf, with, Reads}
-use Rattle.mapfile.specs.View.{Comes, machineBy}
+use Rattle.mapparts.specs.View.{placeOf, with, Reads, callOf}
+use Rattle.mapparts.proofs.Reading.{end-refused}
+use Rattle.mapfile.specs.View.{Comes, machineBy, bindNext}
 
 -- ---- coming to an answer
 
@@ -71,56 +72,41 @@ module _ (s : List ℕ) (c : FilePlace) (ans : Answer) (g : Graph) (m : Machine 
       go Accepted = refl
       go (Refused n) = refl
 
--- ---- a binding
+-- ---- the call of a kind
 
-module _ (m : Machine graphKind) where
-  abbrev after-mode : ℕ → ℕ → Reader (Machine graphKind)
-  after-mode kind mode = λ bs. thenRead (listOf mostParts readPart bs) (λ path. bindBy kind mode path m)
+module _ {x : Result (List ℕ)} {z : Result (Machine graphKind × List ℕ)} (kind mode : ℕ) (path : List Part) (st : Step) (m : Machine graphKind) where
+  pub as-mapping : kind ≡ 0 → Comes x (lifted (map-call graphKind mode path st m)) z → Comes x (lifted (bind graphKind (callOf kind mode path st) m)) z
+  unfolding bind callOf
+  as-mapping e h = subst (λ k. Comes x (lifted (bind graphKind (callOf k mode path st) m)) z) (sym e) h
 
-  abbrev after-kind : ℕ → Reader (Machine graphKind)
-  after-kind kind = λ bs. thenRead (such isMode bs) (after-mode kind)
-
-module _ (m : Machine graphKind) {x₀ x₁ x₂ x₃ : Result (List ℕ)} {z : Result (Machine graphKind × List ℕ)} {kind mode : ℕ} {path : List Part} where
-  row : Reads x₀ (upTo 2) kind x₁ → Reads x₁ (such isMode) mode x₂ → Reads x₂ (listOf mostParts readPart) path x₃ → Comes x₃ (bindBy kind mode path m) z → Comes x₀ (readBinding m) z
-  row p q r h = comes (after-kind m) p (comes (after-mode m kind) q (comes (λ path. bindBy kind mode path m) r h))
-
-  pub prefix-alone : Reads x₀ (upTo 2) kind x₁ → Reads x₁ (such isMode) mode x₂ → Reads x₂ (listOf mostParts readPart) path x₃ → kind ≡ 1
-      → Comes x₃ (lifted (prefix-call graphKind mode path none m)) z → Comes x₀ (readBinding m) z
-  unfolding bindBy
-  prefix-alone p q r e h = row p q r (subst (λ k. Comes x₃ (bindBy k mode path m) z) (sym e) h)
-
-  module _ {x₄ : Result (List ℕ)} {st : Step} where
-    pub mapping-step : Reads x₀ (upTo 2) kind x₁ → Reads x₁ (such isMode) mode x₂ → Reads x₂ (listOf mostParts readPart) path x₃ → kind ≡ 0
-        → Reads x₃ readStep st x₄ → Comes x₄ (lifted (map-call graphKind mode path st m)) z → Comes x₀ (readBinding m) z
-    unfolding bindBy
-    mapping-step p q r e t h =
-        row p q r (subst (λ k. Comes x₃ (bindBy k mode path m) z) (sym e) (comes (λ st. lifted (map-call graphKind mode path st m)) t h))
-
-    pub prefix-step : Reads x₀ (upTo 2) kind x₁ → Reads x₁ (such isMode) mode x₂ → Reads x₂ (listOf mostParts readPart) path x₃ → (kind ≡ 0 → ⊥) → (kind ≡ 1 → ⊥)
-        → Reads x₃ readStep st x₄ → Comes x₄ (lifted (prefix-call graphKind mode path (some st) m)) z → Comes x₀ (readBinding m) z
-    unfolding bindBy
-    prefix-step p q r e f t h = row p q r (go kind e f)
-      where
-        go : (kind : ℕ) → (kind ≡ 0 → ⊥) → (kind ≡ 1 → ⊥) → Comes x₃ (bindBy kind mode path m) z
-        go zero e f = absurd (e refl)
-        go (suc zero) e f = absurd (f refl)
-        go (suc (suc k)) e f = comes (λ st. lifted (prefix-call graphKind mode path (some st) m)) t h
+  pub as-prefix : (kind ≡ 0 → ⊥) → Comes x (lifted (prefix-call graphKind mode path (chosenOf (ltb 1 kind) st) m)) z → Comes x (lifted (bind graphKind (callOf kind mode path st) m)) z
+  unfolding bind callOf chosenOf
+  as-prefix n h = go kind n h
+    where
+      go : (k : ℕ) → (k ≡ 0 → ⊥) → Comes x (lifted (prefix-call graphKind mode path (chosenOf (ltb 1 k) st) m)) z → Comes x (lifted (bind graphKind (callOf k mode path st) m)) z
+      go zero n h = absurd (n refl)
+      go (suc zero) n h = h
+      go (suc (suc k)) n h = subst (λ b. Comes x (lifted (prefix-call graphKind mode path (chosenOf b st) m)) z) (lt-ltb 1 (suc (suc k)) (omega arith)) h
 
 -- ---- bindings in a row
 
 module _ (ans : Answer) (left : ℕ) (m m₁ : Machine graphKind) (bs bs₁ : List ℕ) where
-  next : 0 < left → resultBy ans (m₁, bs₁) ≡ readBinding m bs → thenRead (resultBy ans (m₁, bs₁)) (readBindings (left - 1)) ≡ readBindings left m bs
+  flat : (k : ℕ) (y : Result (Binding × List ℕ)) → thenRead (thenRead y (λ x. lifted (bind graphKind x m))) (readBindings k) ≡ thenRead y (λ x. λ bs. thenRead (lifted (bind graphKind x m) bs) (readBindings k))
+  flat k (accept r) = refl
+  flat k (refuse n) = refl
+
+  next : 0 < left → resultBy ans (m₁, bs₁) ≡ bindNext m bs → thenRead (resultBy ans (m₁, bs₁)) (readBindings (left - 1)) ≡ readBindings left m bs
   unfolding readBindings
   next h e = go left h
     where
       go : (left : ℕ) → 0 < left → thenRead (resultBy ans (m₁, bs₁)) (readBindings (left - 1)) ≡ readBindings left m bs
       go zero h = absurd (omega arith)
-      go (suc k) h = rw (sub-one (suc k)) (ap (λ r. thenRead r (readBindings k)) e)
+      go (suc k) h = rw (sub-one (suc k)) (ap (λ r. thenRead r (readBindings k)) e ∙ flat k (readBinding bs))
 
-  pub one-more : 0 < left → ans ≡ Accepted → resultBy ans (m₁, bs₁) ≡ readBinding m bs → readBindings (left - 1) m₁ bs₁ ≡ readBindings left m bs
+  pub one-more : 0 < left → ans ≡ Accepted → resultBy ans (m₁, bs₁) ≡ bindNext m bs → readBindings (left - 1) m₁ bs₁ ≡ readBindings left m bs
   one-more h a e = sym (ap (λ ans. thenRead (resultBy ans (m₁, bs₁)) (readBindings (left - 1))) a) ∙ next h e
 
-  pub no-more : (n : ℕ) → 0 < left → ans ≡ Refused n → resultBy ans (m₁, bs₁) ≡ readBinding m bs → resultBy ans (m₁, bs₁) ≡ readBindings left m bs
+  pub no-more : (n : ℕ) → 0 < left → ans ≡ Refused n → resultBy ans (m₁, bs₁) ≡ bindNext m bs → resultBy ans (m₁, bs₁) ≡ readBindings left m bs
   no-more n h a e = ap (λ ans. resultBy ans (m₁, bs₁)) a ∙ sym (ap (λ ans. thenRead (resultBy ans (m₁, bs₁)) (readBindings (left - 1))) a) ∙ next h e
 
 pub none-left : (left : ℕ) (m : Machine graphKind) (bs : List ℕ) → left ≡ 0 → accept (m, bs) ≡ readBindings left m bs
@@ -140,19 +126,6 @@ module _ {x₀ x₁ x₂ : Result (List ℕ)} {t : Tables} {n : ℕ} {z : Result
 pub from-fresh : (n : ℕ) (t : Tables) (g : Graph) (bs : List ℕ) → g ≡ freshGraph → readBindings n (machineBy g (fresh graphKind t .state)) bs ≡ readBindings n (fresh graphKind t) bs
 unfolding fresh
 from-fresh n t g bs e = ap (λ g. readBindings n (machineBy g (fresh graphKind t .state)) bs) e
-
-module _ (s : List ℕ) (at : ℕ) (m : Machine graphKind) where
-  pub ended : length s ≤ at → accept m ≡ atEnd (accept (m, drop at s))
-  unfolding atEnd
-  ended h = rw (drop-of-length-le s h)
-
-  pub left-over : at < length s → refuse 9 ≡ atEnd (accept (m, drop at s))
-  unfolding atEnd
-  left-over h = rw (drop-cons s at 0 h)
-
-pub end-refused : (n : ℕ) → refuse n ≡ atEnd {A = Machine graphKind} (refuse n)
-unfolding atEnd
-end-refused n = refl
 
 pub map-refused : (n : ℕ) (s : List ℕ) → refuse n ≡ readMachine s → refuse n ≡ readMap s
 unfolding readMap
@@ -179,3 +152,41 @@ told-of ans ans₁ m m₁ n e f h = ap (λ a. resultBy a m₁) e ∙ sym (ap (λ
 
 pub not-refused : (ans : Answer) (n : ℕ) → ans ≡ Accepted → ans ≡ Refused n → ⊥
 not-refused ans n e f = let z : _≡_ {A = ℕ} 0 1 = cc in omega arith
+
+-- ---- a binding alone
+
+-- what is read from the first byte on
+pub from-start : {A : Type 0} (s : List ℕ) {r : Reader A} {a : A} {y : Result (List ℕ)} → Reads (placeOf s (record { at = 0; refusal = 0 })) r a y → with a y ≡ r s
+unfolding placeOf outcome
+from-start s h = h .is
+
+-- what is come to after the end, without the bytes that are left
+module _ (s : List ℕ) (p : FilePlace) (ans : Answer) (at : ℕ) (b : Binding) (m m₁ : Machine graphKind) where
+  pub called-last : {y : Result Binding} → outcome (p .refusal) b ≡ y → Comes (placeOf s p) (lifted (bind graphKind b m)) (resultBy ans (m₁, drop at s)) → resultBy ans m₁ ≡ (y >>= λ x. bind graphKind x m)
+  unfolding placeOf outcome
+  called-last {y} e h = first ans ∙ ap values (h .is) ∙ last (p .refusal) ∙ ap (λ y. y >>= λ x. bind graphKind x m) e
+    where
+      values : Result (Machine graphKind × List ℕ) → Result (Machine graphKind)
+      values r = r >>= λ v. accept (v .0)
+
+      first : (ans : Answer) → resultBy ans m₁ ≡ values (resultBy ans (m₁, drop at s))
+      first Accepted = refl
+      first (Refused n) = refl
+
+      read : (r : Result (Machine graphKind)) (bs : List ℕ) → values (lifted r bs) ≡ r
+      read (accept a) bs = refl
+      read (refuse n) bs = refl
+
+      last : (n : ℕ) → values (outcome n (drop (p .at) s) >>= lifted (bind graphKind b m)) ≡ (outcome n b >>= λ x. bind graphKind x m)
+      last zero = read (bind graphKind b m) (drop (p .at) s)
+      last (suc n) = refl
+
+-- an accepted call leaves what it came to, and a refused one what was there
+module _ (m m₁ : Machine graphKind) (ans : Answer) {y : Result (Machine graphKind)} (e : resultBy ans m₁ ≡ y) where
+  pub leaves-new : ans ≡ Accepted → (m₁, answerOf ans) ≡ settled graphKind m y
+  unfolding settled
+  leaves-new is = ap (λ a. (m₁, answerOf a)) is ∙ ap (settled graphKind m) (sym (ap (λ a. resultBy a m₁) is) ∙ e)
+
+  pub leaves-old : (n : ℕ) → ans ≡ Refused n → (m, answerOf ans) ≡ settled graphKind m y
+  unfolding settled
+  leaves-old n is = ap (λ a. (m, answerOf a)) is ∙ ap (settled graphKind m) (sym (ap (λ a. resultBy a m₁) is) ∙ e)

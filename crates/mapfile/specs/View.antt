@@ -6,11 +6,11 @@ use lib.ListN.{length, take, drop}
 use Rattle.rules.specs.Basics.{Result, accept, refuse, _>>=_}
 use Rattle.rules.specs.Values.{Pair}
 use Rattle.rules.specs.Numbers.{bytesOf}
-use Rattle.rules.specs.MapFile.{Reader}
+use Rattle.rules.specs.MapFile.{Reader, thenRead, lifted, readBinding, atEnd}
 use Rattle.rules.specs.Run.{pairBytes}
 use Rattle.rules.specs.Graph.{Graph}
 use Rattle.rules.specs.KeyLoop.{State}
-use Rattle.rules.specs.Calls.{Machine, graphKind, fresh}
+use Rattle.rules.specs.Calls.{Machine, graphKind, fresh, bind}
 use Rattle.keyvalues.specs.View.{resultBy}
 use Rattle.keyparts.specs.View.{graphOf}
 use Rattle.keytables.specs.View.{tablesIn}
@@ -29,6 +29,16 @@ pub record Comes {A : Type 0} (x : Result (List ℕ)) (r : Reader A) (y : Result
 
 abbrev pub machineBy : Graph → State ℕ → Machine graphKind
 machineBy g x = record { bindings = g; state = x }
+
+-- a binding, which is called after its last number
+abbrev pub bindNext : Machine graphKind → Reader (Machine graphKind)
+bindNext m = λ bs. thenRead (readBinding bs) (λ x. lifted (bind graphKind x m))
+
+-- a binding that stands alone: it is read with nothing after it, and then called
+abbrev pub bindAlone : Machine graphKind → List ℕ → Result (Machine graphKind)
+bindAlone m bs = do
+  x ← atEnd (readBinding bs)
+  bind graphKind x m
 
 -- a machine and the bytes that are left, or the refusal
 abbrev pub boundOf : List ℕ → BindResult → Machine graphKind → Result (Machine graphKind × List ℕ)

@@ -5,23 +5,19 @@ use keygraph::prefix;
 use keyparts::graph::Counts;
 use keyparts::graph::Graph;
 use keyvalues::answer::Answer;
-use keyvalues::path::EdgePath;
-use keyvalues::step::Step;
-use keyvalues::tables::TableWords;
-use mapparts::part;
+use mapparts::binding;
+use mapparts::binding::BindingRead;
 use mapparts::place::FilePlace;
-use mapparts::step;
 ghost use mathlib.Core.Path.{_≡_};
 ghost use Prim.Native.Nat.{ℕ};
 ghost use mathlib.Core.List.{List};
 ghost use lib.ListN.{length, drop};
 ghost use Rattle.rules.specs.KeyLoop.{State};
-ghost use Rattle.rules.specs.Calls.{graphKind, map-call, prefix-call};
-ghost use Rattle.rules.specs.MapFile.{lifted, readBinding, readBindings};
-ghost use Rattle.keyvalues.specs.View.{wholePath, wholeStep, chosenOf};
+ghost use Rattle.rules.specs.Calls.{graphKind, bind};
+ghost use Rattle.rules.specs.MapFile.{lifted, readBindings};
 ghost use Rattle.keyparts.specs.View.{graphIn};
-ghost use Rattle.mapparts.specs.View.{placeOf};
-ghost use Rattle.mapfile.specs.View.{Comes, machineBy, boundOf};
+ghost use Rattle.mapparts.specs.View.{placeOf, bindingOf};
+ghost use Rattle.mapfile.specs.View.{Comes, machineBy, boundOf, bindNext};
 
 // What a binding leaves beside the graph's words, and the place after it.
 pub struct BindResult {
@@ -30,17 +26,16 @@ pub struct BindResult {
     pub answer: Answer,
 }
 
-fn bind_mapping_or_scratch(
+// The call of a binding that was read, unless the place is refused: that after its last number, or a later one.
+pub(crate) fn bind_or_scratch(
     words: &mut [u64; Graph::WORDS],
     counts: Counts,
-    mode: u16,
-    path: EdgePath,
-    step: Step,
+    binding: BindingRead,
     from: FilePlace,
 ) -> BindResult
     requires { ⌜ length (now words) ≡ 4128 ⌝ }
     ensures { λ r. ⌜ length (now (words .exit)) ≡ 4128 ⌝ }
-    ensures { λ r. ⌜ ((s : List ℕ) (x : State ℕ) → Comes (placeOf s from) (lifted (map-call graphKind mode (wholePath path) (wholeStep step) (machineBy (graphIn (now (words .entry)) counts) x))) (boundOf s r (machineBy (graphIn (now (words .exit)) (r .counts)) x))) ⌝ }
+    ensures { λ r. ⌜ ((s : List ℕ) (x : State ℕ) → Comes (placeOf s from) (lifted (bind graphKind (bindingOf binding) (machineBy (graphIn (now (words .entry)) counts) x))) (boundOf s r (machineBy (graphIn (now (words .exit)) (r .counts)) x))) ⌝ }
 {
     if from.refusal != 0 {
         return BindResult {
@@ -49,7 +44,21 @@ fn bind_mapping_or_scratch(
             answer: Answer::Refused(from.refusal),
         };
     }
-    let r = mapping::add_mapping_or_scratch(words, counts, mode, path, step);
+    let kind = binding.kind;
+    let mode = binding.mode;
+    let path = binding.path;
+    let step = binding.step;
+    if kind == 0 {
+        let r = mapping::add_mapping_or_scratch(words, counts, mode, path, step);
+        let k = r.counts;
+        let answer = r.answer;
+        return BindResult {
+            counts: k,
+            at: from.at,
+            answer: answer,
+        };
+    }
+    let r = prefix::add_prefix_or_scratch(words, counts, mode, path, 1 < kind, step);
     let k = r.counts;
     let answer = r.answer;
     BindResult {
@@ -59,39 +68,7 @@ fn bind_mapping_or_scratch(
     }
 }
 
-// `chosen`: the prefix has the step.
-fn bind_prefix_or_scratch(
-    words: &mut [u64; Graph::WORDS],
-    counts: Counts,
-    mode: u16,
-    path: EdgePath,
-    chosen: bool,
-    step: Step,
-    from: FilePlace,
-) -> BindResult
-    requires { ⌜ length (now words) ≡ 4128 ⌝ }
-    ensures { λ r. ⌜ length (now (words .exit)) ≡ 4128 ⌝ }
-    ensures { λ r. ⌜ ((s : List ℕ) (x : State ℕ) → Comes (placeOf s from) (lifted (prefix-call graphKind mode (wholePath path) (chosenOf chosen (wholeStep step)) (machineBy (graphIn (now (words .entry)) counts) x))) (boundOf s r (machineBy (graphIn (now (words .exit)) (r .counts)) x))) ⌝ }
-{
-    if from.refusal != 0 {
-        return BindResult {
-            counts: counts,
-            at: from.at,
-            answer: Answer::Refused(from.refusal),
-        };
-    }
-    let r = prefix::add_prefix_or_scratch(words, counts, mode, path, chosen, step);
-    let k = r.counts;
-    let answer = r.answer;
-    BindResult {
-        counts: k,
-        at: from.at,
-        answer: answer,
-    }
-}
-
-// Kind, mode, path, and the step for kinds 0 and 2.
-pub(crate) fn read_binding_or_scratch(
+fn read_binding_or_scratch(
     s: &[u8],
     words: &mut [u64; Graph::WORDS],
     counts: Counts,
@@ -99,27 +76,12 @@ pub(crate) fn read_binding_or_scratch(
 ) -> BindResult
     requires { ⌜ length (now words) ≡ 4128 ⌝ }
     ensures { λ r. ⌜ length (now (words .exit)) ≡ 4128 ⌝ }
-    ensures { λ r. ⌜ ((x : State ℕ) → boundOf (now (s .entry)) r (machineBy (graphIn (now (words .exit)) (r .counts)) x) ≡ readBinding (machineBy (graphIn (now (words .entry)) counts) x) (drop at (now (s .entry)))) ⌝ }
+    ensures { λ r. ⌜ ((x : State ℕ) → boundOf (now (s .entry)) r (machineBy (graphIn (now (words .exit)) (r .counts)) x) ≡ bindNext (machineBy (graphIn (now (words .entry)) counts) x) (drop at (now (s .entry)))) ⌝ }
 {
     let from = FilePlace { at: at, refusal: 0 };
-    let kind = from.up_to(s, 2);
-    let a = kind.place;
-    let mode = a.below(s, TableWords::MODES);
-    let b = mode.place;
-    let parts = part::read_path(s, b);
-    let c = parts.place;
-    let path = parts.path;
-    if kind.value == 1 {
-        let none = Step::default();
-        return bind_prefix_or_scratch(words, counts, mode.value, path, false, none, c);
-    }
-    let read = step::read_step(s, c);
-    let d = read.place;
-    let does = read.step;
-    if kind.value == 0 {
-        return bind_mapping_or_scratch(words, counts, mode.value, path, does, d);
-    }
-    bind_prefix_or_scratch(words, counts, mode.value, path, true, does, d)
+    let binding = binding::read_binding(s, from);
+    let end = binding.place;
+    bind_or_scratch(words, counts, binding, end)
 }
 
 // `n` bindings, up to the first refusal.

@@ -1,19 +1,23 @@
-// The map file.
+// The map file, and a binding of it alone.
 use crate::bind;
+use keygraph::added::GraphResult;
 use keyparts::graph::Graph;
 use keyvalues::answer::Answer;
 use keyvalues::tables::TableWords;
+use mapparts::binding;
 use mapparts::place::FilePlace;
 use mapparts::tables;
 ghost use mathlib.Core.Path.{_≡_};
 ghost use Prim.Native.Nat.{ℕ};
 ghost use lib.ListN.{drop};
 ghost use Rattle.rules.specs.Tables.{noTables};
-ghost use Rattle.rules.specs.Calls.{Machine, graphKind, fresh};
+ghost use Rattle.rules.specs.KeyLoop.{State};
+ghost use Rattle.rules.specs.Calls.{Machine, graphKind, fresh, settled};
 ghost use Rattle.rules.specs.MapFile.{atEnd, readMap};
 ghost use Rattle.keyvalues.specs.declared.answer.Answer.the-variants.{Refused};
-ghost use Rattle.keyvalues.specs.View.{resultBy};
-ghost use Rattle.mapfile.specs.View.{mapOf};
+ghost use Rattle.keyvalues.specs.View.{resultBy, answerOf};
+ghost use Rattle.keyparts.specs.View.{graphOf};
+ghost use Rattle.mapfile.specs.View.{machineBy, bindAlone, mapOf};
 
 // The graph and the tables of a map. Refused, there is no binding and no table in them.
 pub struct MapRead {
@@ -80,6 +84,31 @@ pub fn read_map(s: &[u8]) -> MapRead
     MapRead {
         graph: graph,
         tables: tables,
+        answer: answer,
+    }
+}
+
+// One binding, with nothing after it, added to a graph. It is read to its end before the call. Refused, the graph is as it
+// was.
+pub fn add_binding(graph: Graph, s: &[u8]) -> GraphResult
+    ensures { λ r. ⌜ ((x : State ℕ) → (machineBy (graphOf (r .graph)) x, answerOf (r .answer)) ≡ settled graphKind (machineBy (graphOf graph) x) (bindAlone (machineBy (graphOf graph) x) (now (s .entry)))) ⌝ }
+{
+    let start = FilePlace { at: 0, refusal: 0 };
+    let binding = binding::read_binding(s, start);
+    let end = binding.place.end(s);
+    let mut after = graph;
+    let r = bind::bind_or_scratch(&mut after.words, graph.counts, binding, end);
+    let counts = r.counts;
+    let answer = r.answer;
+    after.counts = counts;
+    match answer {
+        Answer::Accepted => {}
+        Answer::Refused(_) => {
+            after = graph;
+        }
+    }
+    GraphResult {
+        graph: after,
         answer: answer,
     }
 }

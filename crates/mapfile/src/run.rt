@@ -1,4 +1,4 @@
-// The run, for the C firmware.
+// The run.
 use crate::play;
 use crate::play::RunResult;
 use crate::write;
@@ -21,8 +21,7 @@ fn room_of(lent: usize) -> usize
 
 // Length × 32 + refusal. Accepted, the pairs' bytes stand in front of the output and the rest of it stays; refused, all of
 // it is zeros.
-#[no_mangle]
-pub extern "C" fn keymap_run(map: &[u8], keys: &[u8], output: &mut [u8], budget: u16) -> u64
+pub fn run(map: &[u8], keys: &[u8], output: &mut [u8], budget: u16) -> u64
     ensures { λ r. ⌜ (r, now (output .exit)) ≡ answered (now (output .entry)) (run (now (map .entry)) (now (keys .entry)) budget (length (now (output .entry)))) ⌝ }
 {
     let end = output.len();

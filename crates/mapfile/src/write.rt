@@ -46,3 +46,11 @@ pub(crate) fn clear(out: &mut [u8], end: usize)
         i = i + 1;
     }
 }
+
+// Zeros throughout.
+pub fn clear_all(out: &mut [u8])
+    ensures { λ _. ⌜ now (out .exit) ≡ replicate (length (now (out .entry))) 0 ⌝ }
+{
+    let end = out.len();
+    clear(out, end);
+}

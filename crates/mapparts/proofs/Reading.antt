@@ -1,15 +1,16 @@
 -- Reading in a row. A reader that goes on after another reads what the two read, and from a refused place nothing is read;
 -- so a function that reads one thing after another, each from the place that the last one left, reads as the rules' reader
 -- does that is made of those in the same order.
-use Prim.Native.Nat.{ℕ, zero, suc, _-_}
+use Prim.Native.Nat.{ℕ, zero, suc, _-_, _≤_, _<_}
 use native.Mathlib.Nat.{sub-zero}
 use mathlib.Core.Path.{_≡_, refl, sym, ap, _∙_, subst}
 use mathlib.Core.Bool.{Bool, true, false}
 use mathlib.Core.List.{List, [], _∷_, _++_, append-assoc, append-nil}
-use lib.ListN.{drop}
+use lib.ListN.{length, drop, drop-of-length-le}
+use lib.Seq.{drop-cons}
 use Rattle.rules.specs.Basics.{Result, accept, refuse, _>>=_, unless}
 use Rattle.rules.specs.Numbers.{number}
-use Rattle.rules.specs.MapFile.{Reader, thenRead, give, such, times}
+use Rattle.rules.specs.MapFile.{Reader, thenRead, give, such, times, atEnd}
 use Rattle.mapparts.specs.declared.place.FilePlace.{FilePlace}
 use Rattle.keyvalues.specs.View.{outcome}
 use Rattle.mapparts.specs.View.{placeOf, with, Reads}
@@ -71,6 +72,40 @@ module _ {A : Type 0} (s : List ℕ) (c : FilePlace) (r : Reader A) (a : A) wher
   pub stops : (at n : ℕ) → c .refusal ≡ 0 → refuse (suc n) ≡ r (drop (c .at) s) → Reads (placeOf s c) r a (placeOf s (record { at = at; refusal = suc n }))
   unfolding placeOf outcome
   stops at n h e = record { is = e ∙ sym (ap (λ n. outcome n (drop (c .at) s) >>= r) h) }
+
+-- ---- the end
+
+module _ {A : Type 0} (s : List ℕ) (at : ℕ) (a : A) where
+  pub ended : length s ≤ at → accept a ≡ atEnd (accept (a, drop at s))
+  unfolding atEnd
+  ended h = rw (drop-of-length-le s h)
+
+  pub left-over : at < length s → refuse 9 ≡ atEnd (accept (a, drop at s))
+  unfolding atEnd
+  left-over h = rw (drop-cons s at 0 h)
+
+pub end-refused : {A : Type 0} (n : ℕ) → refuse n ≡ atEnd {A = A} (refuse n)
+unfolding atEnd
+end-refused n = refl
+
+module _ {A : Type 0} (s : List ℕ) (c : FilePlace) (a : A) where
+  -- a refusal met on the way is kept
+  pub end-kept : (c .refusal ≡ 0 → ⊥) → outcome (c .refusal) a ≡ atEnd (with a (placeOf s c))
+  unfolding placeOf outcome
+  end-kept h = go (c .refusal) h
+    where
+      go : (n : ℕ) → (n ≡ 0 → ⊥) → outcome n a ≡ atEnd (with a (outcome n (drop (c .at) s)))
+      go zero h = absurd (h refl)
+      go (suc n) h = end-refused (suc n)
+
+  module _ (h : c .refusal ≡ 0) where
+    pub end-left : c .at < length s → outcome 9 a ≡ atEnd (with a (placeOf s c))
+    unfolding placeOf outcome
+    end-left l = left-over s (c .at) a l ∙ sym (ap (λ n. atEnd (with a (outcome n (drop (c .at) s)))) h)
+
+    pub end-reached : length s ≤ c .at → outcome (c .refusal) a ≡ atEnd (with a (placeOf s c))
+    unfolding placeOf outcome
+    end-reached l = ap (λ n. outcome n a) h ∙ ended s (c .at) a l ∙ sym (ap (λ n. atEnd (with a (outcome n (drop (c .at) s)))) h)
 
 -- ---- ranges
 

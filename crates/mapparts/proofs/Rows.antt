@@ -1,15 +1,16 @@
--- Parts, steps and the tables' entries: rows of numbers and lists, each read from where the one before it ended. A
+-- Parts, steps, bindings and the tables' entries: rows of numbers and lists, each read from where the one before it ended. A
 -- continuation `after-..` is what the rules' reader still has to read then.
-use Prim.Native.Nat.{ℕ}
-use mathlib.Core.Option.{Option}
+use Prim.Native.Nat.{ℕ, zero, suc}
+use mathlib.Core.Path.{_≡_, refl, sym, subst}
+use mathlib.Core.Option.{Option, none, some}
 use mathlib.Core.List.{List}
 use lib.Dec.{eqb, leb}
 use Rattle.rules.specs.Basics.{Result}
-use Rattle.rules.specs.Values.{Event, Repeat, Part, Step, isMode, isClass, isSequence, isStatus, mostClasses, modeCount, mostRules}
+use Rattle.rules.specs.Values.{Event, Repeat, Part, Step, Binding, Maps, Prefixes, isMode, isClass, isSequence, isStatus, mostParts, mostClasses, modeCount, mostRules}
 use Rattle.rules.specs.Tables.{ClassEntry, ModeEntry, Rule, Tables}
 use Rattle.rules.specs.Numbers.{number}
-use Rattle.rules.specs.MapFile.{Reader, _>>=_, give, such, upTo, optionalMark, readOptionalMode, readActions, repeatBy, eventBy, readPart, readStep, readClass, readMode, readRule, listOf, readTables}
-use Rattle.mapparts.specs.View.{Reads, readMark, readRepeat, readEvent}
+use Rattle.rules.specs.MapFile.{Reader, _>>=_, give, such, upTo, optionalMark, readOptionalMode, readActions, repeatBy, eventBy, readPart, readStep, bindingBy, readBinding, readClass, readMode, readRule, listOf, readTables}
+use Rattle.mapparts.specs.View.{Reads, readMark, readRepeat, readEvent, callOf}
 use Rattle.mapparts.proofs.Reading.{then, gives, in-one}
 
 -- ---- parts
@@ -66,6 +67,35 @@ module _ {x₀ x₁ x₂ x₃ x₄ x₅ : Result (List ℕ)} where
         (then (after-fall flag acts next) s
         (in-one number (λ n. give (optionalMark n)) (λ mark. give (step-of flag acts next fall mark))
         (then (λ mark. give (step-of flag acts next fall mark)) t (gives x₅ (step-of flag acts next fall mark)))))))
+
+-- ---- bindings
+
+abbrev after-mode-of : ℕ → ℕ → Reader Binding
+after-mode-of kind mode = do
+  path ← listOf mostParts readPart
+  bindingBy kind mode path
+
+abbrev after-kind : ℕ → Reader Binding
+after-kind kind = do
+  mode ← such isMode
+  after-mode-of kind mode
+
+module _ {x₀ x₁ x₂ x₃ : Result (List ℕ)} {kind mode : ℕ} {path : List Part} (p : Reads x₀ (upTo 2) kind x₁) (q : Reads x₁ (such isMode) mode x₂) (r : Reads x₂ (listOf mostParts readPart) path x₃) where
+  row : {b : Binding} {x₄ : Result (List ℕ)} → Reads x₃ (bindingBy kind mode path) b x₄ → Reads x₀ readBinding b x₄
+  row h = then after-kind p (then (after-mode-of kind) q (then (bindingBy kind mode) r h))
+
+  pub prefix-read : (st : Step) → kind ≡ 1 → Reads x₀ readBinding (callOf 1 mode path st) x₃
+  unfolding bindingBy callOf
+  prefix-read st e = row (subst (λ k. Reads x₃ (bindingBy k mode path) (Prefixes mode path none) x₃) (sym e) (gives x₃ (Prefixes mode path none)))
+
+  pub call-read : {st : Step} {x₄ : Result (List ℕ)} → (kind ≡ 1 → ⊥) → Reads x₃ readStep st x₄ → Reads x₀ readBinding (callOf kind mode path st) x₄
+  unfolding bindingBy callOf
+  call-read {st} {x₄} n t = row (go kind n)
+    where
+      go : (k : ℕ) → (k ≡ 1 → ⊥) → Reads x₃ (bindingBy k mode path) (callOf k mode path st) x₄
+      go zero n = then (λ st. give (Maps mode path st)) t (gives x₄ (Maps mode path st))
+      go (suc zero) n = absurd (n refl)
+      go (suc (suc k)) n = then (λ st. give (Prefixes mode path (some st))) t (gives x₄ (Prefixes mode path (some st)))
 
 -- ---- entries of the tables
 

@@ -2,11 +2,14 @@
 // what is made of several numbers is read in a row, with no test between them.
 use crate::number;
 use crate::number::Read;
+ghost use mathlib.Core.Path.{_≡_};
 ghost use Prim.Native.Nat.{_≤_, _<_};
 ghost use lib.Dec.{leb, ltb};
 ghost use Rattle.rules.specs.Numbers.{number};
-ghost use Rattle.rules.specs.MapFile.{such};
-ghost use Rattle.mapparts.specs.View.{placeOf, Reads};
+ghost use Rattle.rules.specs.Values.{Binding};
+ghost use Rattle.rules.specs.MapFile.{such, atEnd};
+ghost use Rattle.keyvalues.specs.View.{outcome};
+ghost use Rattle.mapparts.specs.View.{placeOf, with, Reads};
 
 // The next byte is the one at `at`. The refusal is 0 where there is none.
 pub struct FilePlace {
@@ -114,5 +117,21 @@ impl FilePlace {
                 refusal: 1,
             },
         }
+    }
+
+    // Nothing may be left: bytes that are, are refused.
+    pub fn end(self, s: &[u8]) -> FilePlace
+        ensures { λ r. ⌜ ((b : Binding) → outcome (r .refusal) b ≡ atEnd (with b (placeOf (now (s .entry)) self))) ⌝ }
+    {
+        if self.refusal != 0 {
+            return self;
+        }
+        if self.at < s.len() {
+            return FilePlace {
+                at: self.at,
+                refusal: 9,
+            };
+        }
+        self
     }
 }

@@ -4,19 +4,19 @@ use Prim.Native.Nat.{ℕ, zero, suc, _+_, min}
 use native.Mathlib.Omega.{arith}
 use mathlib.Core.Path.{_≡_, refl}
 use mathlib.Core.Bool.{Bool, true, _&&_}
-use mathlib.Core.Option.{Option, none, some}
+use mathlib.Core.Option.{Option}
 use mathlib.Core.List.{List, [], _∷_, _++_, map}
 use lib.Dec.{T, leb, ltb}
 use lib.ListN.{length, getD}
 use Rattle.rules.specs.Basics.{Result, accept}
 use Rattle.rules.specs.Values.{largest, modeCount, mostClasses, mostActions, mostRules, mostParts, mostQueued, mostTrail, defaultMode, isMode, isClass, isSequence, isStatus, isRepeat}
-use Rattle.rules.specs.Values.{Event, Part, Step, mapValid, prefixValid, Context, Pair}
+use Rattle.rules.specs.Values.{Event, Part, Step, mapValid, prefixValid, Binding, Maps, Prefixes, Context, Pair}
 use Rattle.rules.specs.Tables.{Tables, tablesValid}
 use Rattle.rules.specs.Graph.{Edge}
 use Rattle.rules.specs.KeyLoop.{noTracker, tracker, fetch, withSequences, Input, inputKey, resetMode, repeatSequence}
-use Rattle.rules.specs.Calls.{Kind, Machine, graphKind, fresh, navigate, open-with, map-call, prefix-call, key-call, repeat-call, reset-call}
+use Rattle.rules.specs.Calls.{Kind, Machine, graphKind, fresh, navigate, open-with, map-call, prefix-call, bind, key-call, repeat-call, reset-call}
 use Rattle.rules.specs.Numbers.{groups, valueOf, shortest, numberUpTo, number}
-use Rattle.rules.specs.MapFile.{Reader, thenRead, lifted, such, times, listOf, readActions, readOptionalMode, readClass, readMode, readRule, readTables, repeatBy, eventBy, readPart, readStep, bindBy, readBinding, readBindings, atEnd, readMap}
+use Rattle.rules.specs.MapFile.{Reader, thenRead, lifted, such, times, listOf, readActions, readOptionalMode, readClass, readMode, readRule, readTables, repeatBy, eventBy, readPart, readStep, bindingBy, readBinding, readBindings, atEnd, readMap}
 use Rattle.rules.specs.Run.{mostOutput, numbersIn, readKeys, pairBytes, emptied, playKeys, run}
 use Rattle.rules.proofs.Results.{Always, accepts, refuses, Whatever, always-bind, always-more, always-unless, always-if}
 use Rattle.rules.proofs.Edges.{edge, stored}
@@ -155,28 +155,31 @@ module _ {N : ℕ → Bool} (nine : T (N 9)) (one : T (N 1)) where
 
   -- ---- bindings and the file
 
+  binding-by-always : (kind mode : ℕ) (path : List Part) → Reads N (bindingBy kind mode path)
+  unfolding bindingBy
+  binding-by-always zero mode path bs = then-reads (step-always bs) (λ st cs. accepts tt)
+  binding-by-always (suc zero) mode path bs = accepts tt
+  binding-by-always (suc (suc k)) mode path bs = then-reads (step-always bs) (λ st cs. accepts tt)
+
+  binding-always : Reads N readBinding
+  binding-always bs =
+      then-reads (such-always (λ n. leb n 2) bs)
+      (λ kind bs₁. then-reads (such-always isMode bs₁) (λ mode bs₂. then-reads (list-always mostParts readPart part-always bs₂) (λ path bs₃. binding-by-always kind mode path bs₃)))
+
   module _ (two : T (N 2)) (three : T (N 3)) (four : T (N 4)) where
     call-read : {A : Type 0} {X : A → Type 0} {r : Result A} → Always N X r → Reads N (lifted r)
     call-read (accepts h) bs = accepts tt
     call-read (refuses n o) bs = refuses n o
 
-    bind-always : (kind mode : ℕ) (path : List Part) (s : Machine graphKind) → Reads N (bindBy kind mode path s)
-    unfolding bindBy
-    bind-always zero mode path s bs =
-        then-reads (step-always bs) (λ st cs. call-read (map-always one two three four (λ _. Unit {0}) (λ _ _ _ _ _. tt) mode path st s tt) cs)
-    bind-always (suc zero) mode path s bs = call-read (prefix-always one two three four (λ _. Unit {0}) (λ _ _ _ _ _. tt) mode path none s tt) bs
-    bind-always (suc (suc k)) mode path s bs =
-        then-reads (step-always bs) (λ st cs. call-read (prefix-always one two three four (λ _. Unit {0}) (λ _ _ _ _ _. tt) mode path (some st) s tt) cs)
-
-    binding-always : (s : Machine graphKind) → Reads N (readBinding s)
-    binding-always s bs =
-        then-reads (such-always (λ n. leb n 2) bs)
-        (λ kind bs₁. then-reads (such-always isMode bs₁) (λ mode bs₂. then-reads (list-always mostParts readPart part-always bs₂) (λ path bs₃. bind-always kind mode path s bs₃)))
+    bind-always : (x : Binding) (s : Machine graphKind) → Reads N (lifted (bind graphKind x s))
+    unfolding bind
+    bind-always (Maps mode path st) s = call-read (map-always one two three four (λ _. Unit {0}) (λ _ _ _ _ _. tt) mode path st s tt)
+    bind-always (Prefixes mode path st) s = call-read (prefix-always one two three four (λ _. Unit {0}) (λ _ _ _ _ _. tt) mode path st s tt)
 
     bindings-always : (n : ℕ) (s : Machine graphKind) → Reads N (readBindings n s)
     unfolding readBindings
     bindings-always zero s bs = accepts tt
-    bindings-always (suc n) s bs = then-reads (binding-always s bs) (λ s₁ cs. bindings-always n s₁ cs)
+    bindings-always (suc n) s bs = then-reads (binding-always bs) (λ x cs. then-reads (bind-always x s cs) (λ s₁ ds. bindings-always n s₁ ds))
 
     end-always : {A : Type 0} {x : Result (A × List ℕ)} → Always N Whatever x → Always N Whatever (atEnd x)
     unfolding atEnd

@@ -2,14 +2,14 @@
 -- over any store of bindings; the graph machine; lists of calls; and what holds of find and of the node hint.
 use Prim.Native.Nat.{ℕ, _+_, _-_, _≤_, _<_}
 use mathlib.Core.Path.{_≡_}
-use mathlib.Core.Bool.{Bool, true, false, not, _&&_}
+use mathlib.Core.Bool.{Bool, false, not, _&&_}
 use mathlib.Core.Option.{Option, none, some}
 use mathlib.Core.List.{List, [], _∷_}
 use lib.Dec.{T, eqb}
 use lib.ListN.{length}
 use Rattle.rules.specs.Basics.{if_then_else_, Result, accept, refuse, _>>=_, unless, some-of}
-use Rattle.rules.specs.Values.{modeCount, mostNodes, defaultMode, Event, Part, Step, mapValid, prefixValid, Context, Pair}
-use Rattle.rules.specs.Tables.{ClassEntry, Tables, tablesValid}
+use Rattle.rules.specs.Values.{modeCount, mostNodes, defaultMode, Event, Part, Step, mapValid, prefixValid, Binding, Maps, Prefixes, Context, Pair}
+use Rattle.rules.specs.Tables.{Tables, tablesValid}
 use Rattle.rules.specs.Graph.{NodeAction, Empty, Root, Holds, Node, Graph, freshGraph, getNode, hasEdges, Follow, Successor, FallsTo, NoSuccessor, followEdge, addMapping, addPrefix}
 use Rattle.rules.specs.KeyLoop.{Shared, freshShared, withQueue, Again, ClearTrail, Consumed, NeedMore, Unmapped, RunStep, RetryAfter, Turn, Navigator, State, at, Input, KeyResult, inputKey, resetMode, repeatSequence}
 
@@ -79,6 +79,10 @@ module _ (𝓚 : Kind) where
   prefix-call mode path st s = do
     b ← unless (prefixValid mode path st) 1 (𝓚 .prefix-in mode path st (s .bindings))
     accept (withBindings s b)
+
+  unfoldable pub bind : Binding → Machine → Result Machine
+  bind (Maps mode path st) s = map-call mode path st s
+  bind (Prefixes mode path st) s = prefix-call mode path st s
 
   -- key: rounds are made and reported, refused or not
   unfoldable pub key-call : Input → Machine → KeyResult (𝓚 .Place)
@@ -193,5 +197,5 @@ HintFits g h = (h ≤ nodesLeft g) × (h ≡ 0 → nodesLeft g ≡ 0)
 
 -- ---- everything above, to be opened by one name where a run is computed
 unfoldable pub open-Calls : Unit {0}
-unfolding fresh open-with map-call prefix-call key-call repeat-call reset-call mode-call settled pressed popped call history leaves arrive land turnBy graphNavigator does holdsAction nodesLeft
+unfolding fresh open-with map-call prefix-call bind key-call repeat-call reset-call mode-call settled pressed popped call history leaves arrive land turnBy graphNavigator does holdsAction nodesLeft
 open-Calls = tt

@@ -2,15 +2,15 @@
 -- first refusal met: 9 by a number, 1 by a number out of its range when it is read, 2 to 4 after a binding's last number,
 -- 9 by bytes that remain after the last binding.
 use Prim.Native.Nat.{ℕ, zero, suc}
-use mathlib.Core.Bool.{Bool, true, false}
+use mathlib.Core.Bool.{Bool}
 use mathlib.Core.Option.{Option, none, some}
 use mathlib.Core.List.{List, [], _∷_}
-use lib.Dec.{leb, ltb, eqb}
+use lib.Dec.{leb, eqb}
 use Rattle.rules.specs.Basics.{Result, accept, refuse, unless}
 use Rattle.rules.specs.Values.{modeCount, mostClasses, mostActions, mostRules, mostParts, isMode, isClass, isSequence, isStatus, isRepeat}
-use Rattle.rules.specs.Values.{Event, Key, Class, Any, Fallthrough, Repeat, Once, Min, Max, Part, Step}
+use Rattle.rules.specs.Values.{Event, Key, Class, Any, Fallthrough, Repeat, Once, Min, Max, Part, Step, Binding, Maps, Prefixes}
 use Rattle.rules.specs.Tables.{ClassEntry, ModeEntry, Rule, Tables}
-use Rattle.rules.specs.Calls.{Machine, graphKind, fresh, map-call, prefix-call}
+use Rattle.rules.specs.Calls.{Machine, graphKind, fresh, bind}
 use Rattle.rules.specs.Numbers.{number}
 
 -- ---- readers
@@ -139,24 +139,26 @@ readStep = do
   mark ← number
   give (record { flag = eqb flag 1; actions = actions; next = next; fallthrough = fall; mark = optionalMark mark })
 
--- 0 mapping, 1 prefix, 2 prefix with step: the binding's call, after its last number
-unfoldable pub bindBy : ℕ → ℕ → List Part → Machine graphKind → Reader (Machine graphKind)
-bindBy zero mode path s = do st ← readStep; lifted (map-call graphKind mode path st s)
-bindBy (suc zero) mode path s = lifted (prefix-call graphKind mode path none s)
-bindBy (suc (suc k)) mode path s = do st ← readStep; lifted (prefix-call graphKind mode path (some st) s)
+-- 0 mapping, 1 prefix, 2 prefix with step
+unfoldable pub bindingBy : ℕ → ℕ → List Part → Reader Binding
+bindingBy zero mode path = do st ← readStep; give (Maps mode path st)
+bindingBy (suc zero) mode path = give (Prefixes mode path none)
+bindingBy (suc (suc k)) mode path = do st ← readStep; give (Prefixes mode path (some st))
 
 -- kind, mode, part count, parts, then the step for kinds 0 and 2
-abbrev pub readBinding : Machine graphKind → Reader (Machine graphKind)
-readBinding s = do
+abbrev pub readBinding : Reader Binding
+readBinding = do
   kind ← upTo 2
   mode ← such isMode
   path ← listOf mostParts readPart
-  bindBy kind mode path s
+  bindingBy kind mode path
 
+-- each is called after its last number
 unfoldable pub readBindings : ℕ → Machine graphKind → Reader (Machine graphKind)
 readBindings zero s = give s
 readBindings (suc n) s = do
-  s₁ ← readBinding s
+  x ← readBinding
+  s₁ ← lifted (bind graphKind x s)
   readBindings n s₁
 
 -- ---- the file
@@ -177,5 +179,5 @@ readMap bs = atEnd (readMachine bs)
 
 -- ---- everything above, to be opened by one name where a run is computed
 unfoldable pub open-MapFile : Unit {0}
-unfolding times optional optionalMark repeatBy eventBy bindBy readBindings atEnd readMap
+unfolding times optional optionalMark repeatBy eventBy bindingBy readBindings atEnd readMap
 open-MapFile = tt

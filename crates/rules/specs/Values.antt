@@ -4,7 +4,7 @@
 use Prim.Native.Nat.{ℕ, _+_, _-_, _*_, min}
 use mathlib.Core.Bool.{Bool, true, false, _&&_}
 use mathlib.Core.Option.{Option, none, some}
-use mathlib.Core.List.{List, [], _∷_}
+use mathlib.Core.List.{List, []}
 use lib.Dec.{leb, ltb, eqb}
 use lib.ListN.{length}
 use Rattle.rules.specs.Basics.{if_then_else_, every, present}
@@ -207,6 +207,11 @@ mapValid mode path s = isMode mode && (pathValid path && stepValid s)
 unfoldable pub prefixValid : ℕ → List Part → Option Step → Bool
 prefixValid mode path none = isMode mode && pathValid path
 prefixValid mode path (some s) = mapValid mode path s
+
+-- the call itself, as it is read
+pub data Binding : Type 0 where
+  Maps : ℕ → List Part → Step → Binding
+  Prefixes : ℕ → List Part → Option Step → Binding
 
 -- ---- pair
 

@@ -3,7 +3,7 @@ use mathlib.Core.Path.{sym, ap, _∙_}
 use lib.ListN.{drop}
 use Rattle.rules.specs.MapFile.{atEnd}
 use Rattle.keyvalues.specs.View.{resultBy}
-use Rattle.mapfile.proofs.Bindings.{end-refused, left-over, ended}
+use Rattle.mapparts.proofs.Reading.{end-refused, left-over, ended}
 use borrow.Author.Needs.{needs}
 use Rattle.mapfile.proofs.map.at_end.Statement.{statement}
 use Rattle.mapfile.proofs.map.at_end.Tie as tie

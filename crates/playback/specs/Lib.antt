@@ -1,0 +1,2 @@
+-- What a text comes to in lent bytes.
+pub mod View
