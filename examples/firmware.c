@@ -74,7 +74,7 @@ static int run_agrees(void) {
 }
 
 int main(void) {
-    keymap_machine *machine = calloc(1, keymap_size());
+    keymap_machine *machine = (keymap_machine *)calloc(1, keymap_size());
     unsigned refusal;
     if (machine == NULL)
         return 1;

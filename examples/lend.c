@@ -53,7 +53,7 @@ static keymap_machine *room(void) {
     size_t page = (size_t)sysconf(_SC_PAGESIZE);
     size_t size = keymap_size();
     size_t whole = (size + page - 1) / page * page;
-    uint8_t *start = mmap(NULL, whole + page, PROT_READ | PROT_WRITE, MAP_PRIVATE | MAP_ANONYMOUS, -1, 0);
+    uint8_t *start = (uint8_t *)mmap(NULL, whole + page, PROT_READ | PROT_WRITE, MAP_PRIVATE | MAP_ANONYMOUS, -1, 0);
     if (start == MAP_FAILED || mprotect(start + whole, page, PROT_NONE) != 0) {
         perror("lend");
         exit(2);

@@ -1,5 +1,23 @@
-/* Key maps for C: the run of a key map (link libmapfile.a), and one machine that is kept and lent to each call (link
- * libhost.a). */
+/*
+ * Key maps for scanner firmware: link libkeymap.a.
+ *
+ * The firmware keeps a machine and opens it with a map. Then it presses each key of the clerk and pops the pairs that the
+ * key gave. examples/shift.c is a whole shift.
+ *
+ *   key       What the clerk presses, 0 to 65,535; one from 32,768 on that nothing is bound to is tried as 27 and the rest.
+ *   class     A number, 0 to 255, by which a binding names all keys of some ranges.
+ *   mode      One of 16 sets of bindings, 0 to 15; a machine is in one at a time, at first in mode 0.
+ *   binding   A path of keys in a mode, and what it does: actions, another mode, a mark.
+ *   map       The classes, modes, rules and bindings of a machine as bytes, laid out as docs/KEYMAPS.md says.
+ *   action    What the firmware is to do, by a number that is agreed between the map and the firmware.
+ *   count     The number that was typed before an action, at most 65,535; 0 if none was.
+ *   mark      The key that a path took as "any key", or the number that a binding sets; 0 if neither.
+ *   pair      An action with its count and its mark, which waits until it is popped.
+ *   sequence  One of 8 lists, 0 to 7, of at most 64 pairs that the map's rules track, kept to be repeated.
+ *   round     One search for a key in the map.
+ *   budget    How many rounds a key may take.
+ *   trail     The keys of a path that was begun and needs more.
+ */
 #ifndef KEYMAP_H
 #define KEYMAP_H
 
@@ -11,63 +29,90 @@ extern "C" {
 #endif
 
 /*
- * Reads the map whole, then all keys, and then tries each key with the budget of rounds; after each key its pairs
- * (action, count, mark) are written to the output, three numbers a pair. At most the first 65,536 bytes of the output are
- * used. Numbers of map, keys and output are groups of seven bits, lowest first, 0x80 set on all but the last.
+ * A machine is KEYMAP_SIZE bytes at an address that is a multiple of KEYMAP_ALIGN. Words of 8 bytes lie so:
  *
- * A slice is a pointer and a count of bytes. The three must not overlap where one of them is written. A pointer may be
- * anything but null where the count is 0.
+ *     static uint64_t storage[KEYMAP_SIZE / 8];
+ *     keymap_machine *machine = (keymap_machine *)storage;
  *
- * The result is length * 32 + refusal: KEYMAP_LENGTH and KEYMAP_REFUSAL split it. Accepted (refusal 0), so many bytes
- * stand in front of the output, and the rest of it stays as it was. Refused, the length is 0 and the whole output is
- * zeros, past 65,536 bytes too.
- */
-uint64_t keymap_run(
-    const uint8_t *map, size_t map_count,
-    const uint8_t *keys, size_t keys_count,
-    uint8_t *output, size_t output_count,
-    uint16_t budget);
-
-#define KEYMAP_LENGTH(result) ((size_t)((result) / 32))
-#define KEYMAP_REFUSAL(result) ((unsigned)((result) % 32))
-
-/*
- * One machine that the firmware keeps and lends to each call.
+ * Header and archive must be of one version: test once that keymap_size() is KEYMAP_SIZE, as examples/shift.c does. The bytes
+ * must have been written before the first call, as static storage and calloc's are; then open the machine. It holds no
+ * pointer, so its bytes may be copied, stored and put back, but into the same version of the library only.
  *
- * It is keymap_size() bytes at an address that is a multiple of KEYMAP_ALIGN, and nobody else reads or writes them during a
- * call. Any bytes are some machine, so they only have to be written once before the first call, as calloc does; what they
- * mean is the library's own. A machine holds no pointer: its bytes may be copied, kept and put back.
+ * During a call nobody else may use the machine or the bytes lent with it, and these must not overlap. Nothing else is shared:
+ * two machines know nothing of each other. Bytes are lent as a pointer and their count; the pointer is never null, even
+ * where the count is 0.
+ *
+ * The archive calls memcpy, memmove and memset and nothing else, takes no heap and has no data of its own. Each call takes
+ * this much stack on x86-64, measured by examples/stack.c and rounded up:
+ *
+ *     keymap_size          1 KiB
+ *     keymap_open        152 KiB
+ *     keymap_bind         77 KiB
+ *     keymap_key          19 KiB
+ *     keymap_pop          11 KiB
+ *     keymap_repeat       34 KiB
+ *     keymap_repeat_over  34 KiB
+ *     keymap_reset        14 KiB
+ *     keymap_mode          1 KiB
+ *     keymap_find         33 KiB
+ *     keymap_free          1 KiB
+ *     keymap_run          90 KiB
  */
 typedef struct keymap_machine keymap_machine;
 
+#define KEYMAP_SIZE 40432
 #define KEYMAP_ALIGN 8
 
-/* The bytes of a machine. */
+/*
+ * The refusals, and what to do then. A refused call tells the first that it meets and leaves the machine as it was, so it can
+ * be made again.
+ */
+enum {
+    KEYMAP_ACCEPTED = 0,
+    KEYMAP_RANGE = 1,    /* a number is out of its range: mend the map, or the call's argument */
+    KEYMAP_NODES = 2,    /* a binding needs a node and none of 1,024 is left: bind fewer or shorter paths */
+    KEYMAP_EDGES = 3,    /* a binding needs an edge and none of 2,048 is left: likewise */
+    KEYMAP_MODE = 4,     /* a binding's path falls through to a node of another mode: bind it in that mode */
+    KEYMAP_QUEUE = 5,    /* more than 256 pairs would wait: pop, and call again; if none waits, the map gives too many */
+    KEYMAP_SEQUENCE = 6, /* a sequence would pass 64 pairs: reset, and begin anew; the map needs a rule that breaks it */
+    KEYMAP_TRAIL = 7,    /* the trail would pass 64 keys: press a key that ends the path, or open the map again */
+    KEYMAP_BUDGET = 8,   /* the budget is used up: press again with a larger one; if 65,535 are too few, the map loops */
+    KEYMAP_NUMBER = 9,   /* the bytes end early, go on behind the end or hold a bad number: they are damaged or cut off */
+    KEYMAP_OUTPUT = 10   /* the pairs do not fit: lend more output, up to 65,536 bytes, or run fewer keys at once */
+};
+
+/* The refusal in a result; not for keymap_size, keymap_pop and keymap_mode, which are never refused. */
+#define KEYMAP_REFUSAL(result) ((unsigned)((result) % 32))
+
+/* The bytes of a machine of the linked archive. */
 size_t keymap_size(void);
 
 /*
- * Reads a map whole: its tables and its bindings. Accepted, the machine is fresh with them: mode 0, no pair and no trail.
- * The map is not needed afterwards, and the two must not overlap. Refused, the machine is as it was.
- *
- * The result is the refusal, KEYMAP_ACCEPTED or one of 1 to 4 and 9.
+ * Reads a map whole. The machine is then fresh with it: in mode 0, with no pair, no trail and empty sequences. The map's
+ * bytes are not needed afterwards.
+ * The result is the refusal: RANGE, NODES, EDGES, MODE or NUMBER.
  */
 uint64_t keymap_open(keymap_machine *machine, const uint8_t *map, size_t map_count);
 
 /*
- * Tries one key with a budget of rounds. Its pairs then wait to be popped. Refused, the machine is as it was.
- *
- * The result is rounds * 32 + refusal: KEYMAP_ROUNDS and KEYMAP_REFUSAL split it. The rounds made are told of a refused key
- * too; its refusal is one of 5 to 8.
+ * Adds one binding, laid out as in a map and with nothing behind it. It is read to its end before it is added. All else stays
+ * as it is.
+ * The result is the refusal: RANGE, NODES, EDGES, MODE or NUMBER.
+ */
+uint64_t keymap_bind(keymap_machine *machine, const uint8_t *binding, size_t binding_count);
+
+/*
+ * Presses a key. Its pairs wait behind those that wait already. A key mostly takes one round, and more where it ends a trail
+ * in vain, since the keys of the trail are tried again: a budget of 1,000 does for common maps.
+ * The result is rounds * 32 + refusal: QUEUE, SEQUENCE, TRAIL or BUDGET. The rounds made are told of a refused key too.
  */
 uint64_t keymap_key(keymap_machine *machine, uint16_t key, uint16_t budget);
 
 #define KEYMAP_ROUNDS(result) ((unsigned)((result) / 32))
 
 /*
- * Takes the first waiting pair. Nothing is ever refused.
- *
- * The result is 0 where no pair waits. Else it is action + count * 2^16 + mark * 2^32 + 2^48: KEYMAP_WAITS says that there
- * was a pair, and KEYMAP_ACTION, KEYMAP_COUNT and KEYMAP_MARK split it.
+ * Takes the first pair that waits. Never refused.
+ * The result is 0 if none waits, else the pair: action + count * 2^16 + mark * 2^32 + 2^48.
  */
 uint64_t keymap_pop(keymap_machine *machine);
 
@@ -77,27 +122,58 @@ uint64_t keymap_pop(keymap_machine *machine);
 #define KEYMAP_MARK(result) ((unsigned)((result) >> 32 & 0xffff))
 
 /*
- * Enters mode 0 anew and breaks every sequence; the trail is kept. Refused, the machine is as it was.
- *
- * The result is the refusal: KEYMAP_ACCEPTED, KEYMAP_QUEUE or KEYMAP_SEQUENCE.
+ * Puts the pairs of a sequence before those that wait. They are not tracked again.
+ * The result is the refusal: RANGE (a sequence over 7) or QUEUE.
+ */
+uint64_t keymap_repeat(keymap_machine *machine, uint16_t sequence);
+
+/*
+ * The same with another count and another mark in every pair, each unless it is 0. The sequence keeps the pairs so.
+ * The result is the refusal: RANGE (a sequence over 7, a count over 65,535) or QUEUE.
+ */
+uint64_t keymap_repeat_over(keymap_machine *machine, uint16_t sequence, uint32_t count, uint16_t mark);
+
+/*
+ * Enters mode 0 and breaks every sequence: the next pair tracked starts it anew. If the map gives pairs for entering mode 0,
+ * they wait then; a count or mark that was typed goes with them, and else is forgotten. Pairs that wait and the trail stay.
+ * The result is the refusal: QUEUE or SEQUENCE.
  */
 uint64_t keymap_reset(keymap_machine *machine);
 
-/* The refusals: the first met, in reading and then in running. */
-enum {
-    KEYMAP_ACCEPTED = 0,
-    KEYMAP_RANGE = 1,     /* a number of the map is out of its range */
-    KEYMAP_NODES = 2,     /* a binding needs a node, and none is left */
-    KEYMAP_EDGES = 3,     /* a binding needs an edge, and none is left */
-    KEYMAP_MODE = 4,      /* a binding leads to a node of another mode */
-    KEYMAP_QUEUE = 5,     /* a pair meets a queue of 256 pairs */
-    KEYMAP_SEQUENCE = 6,  /* a pair is to be tracked behind 64 pairs */
-    KEYMAP_TRAIL = 7,     /* a key is to join a trail of 64 keys */
-    KEYMAP_BUDGET = 8,    /* a further round is due, and the key's budget is used up */
-    KEYMAP_NUMBER = 9,    /* a number or the map ends early, a number is over 65,535 or not in the shortest form, or bytes
-                             remain after the map's last binding */
-    KEYMAP_OUTPUT = 10    /* a pair does not fit in the output */
-};
+/* The mode that the machine is in. Never refused. */
+uint64_t keymap_mode(const keymap_machine *machine);
+
+/*
+ * Looks for a binding of the mode that does the action, for a help screen. It may find one that a later binding replaced.
+ * The result is (node + 1) * 32 for the node of such a binding, 0 if there is none, or the refusal: RANGE (a mode over 15).
+ */
+uint64_t keymap_find(const keymap_machine *machine, uint16_t mode, uint16_t action);
+
+#define KEYMAP_FOUND(result) ((result) >= 32)
+#define KEYMAP_NODE(result) ((unsigned)((result) / 32 - 1))
+
+/*
+ * How many nodes are left for bindings; each key of a path takes one, unless an earlier path begins the same. Never refused.
+ * The result is nodes * 32, for a number that is at most the nodes left, and 0 only if none is.
+ */
+uint64_t keymap_free(const keymap_machine *machine);
+
+#define KEYMAP_FREE(result) ((unsigned)((result) / 32))
+
+/*
+ * Plays keys on a fresh machine of its own: reads the map, then all keys, presses each with the budget, and writes the pairs
+ * after each to the output: action, count and mark. Keys and output are numbers as in a map: groups of seven bits, lowest
+ * first, 0x80 set on all but the last. At most the first 65,536 bytes of the output are used.
+ * The result is length * 32 + refusal: any of 1 to 10. So many bytes were written, and the output behind them stays; refused,
+ * the length is 0 and the whole output is zeros.
+ */
+uint64_t keymap_run(
+    const uint8_t *map, size_t map_count,
+    const uint8_t *keys, size_t keys_count,
+    uint8_t *output, size_t output_count,
+    uint16_t budget);
+
+#define KEYMAP_LENGTH(result) ((size_t)((result) / 32))
 
 #ifdef __cplusplus
 }

@@ -190,6 +190,7 @@ fn call_rows(works: &[Work]) {
         println!("| {bindings} | {} | {} | {lent} | {verdict} |", us(value), target(value.best <= 10e3));
     }
     each_call_rows(works);
+    each_lent_rows(works);
 }
 
 /// Nanoseconds in which no machine can be copied: it has some 40,000 bytes. What takes less was put into the loop by the
@@ -224,6 +225,27 @@ fn each_call_rows(works: &[Work]) {
             calls.less(reading).each(CALL_TIMES as usize)
         });
         println!("| {what} | {} | {} | {} |", hundredths(times[0]), hundredths(times[1]), call_verdict(times));
+    }
+}
+
+/// Microseconds of the lent calls beside keys and pops, at the fewest and the most bindings.
+fn each_lent_rows(works: &[Work]) {
+    let ends = [&works[0], &works[works.len() - 1]];
+    println!("\n| lent call | µs at {} bindings | at {} |", BINDINGS[0], BINDINGS[BINDINGS.len() - 1]);
+    println!("|---|---|---|");
+    for (what, call) in ours::lent::CALLS {
+        let times = ends.map(|work| {
+            let mut machine = ours::lent::Lent::open(&work.bytes);
+            let [calls] = compare([&mut || {
+                clock(|| {
+                    for _ in 0..CALL_TIMES {
+                        black_box(call(&mut machine));
+                    }
+                })
+            }]);
+            calls.each(CALL_TIMES as usize)
+        });
+        println!("| {what} | {} | {} |", hundredths(times[0]), hundredths(times[1]));
     }
 }
 

@@ -88,7 +88,19 @@ pub mod lent {
         fn keymap_open(machine: *mut u64, map: *const u8, map_count: usize) -> u64;
         fn keymap_key(machine: *mut u64, key: u16, budget: u16) -> u64;
         fn keymap_pop(machine: *mut u64) -> u64;
+        fn keymap_bind(machine: *mut u64, binding: *const u8, binding_count: usize) -> u64;
+        fn keymap_mode(machine: *const u64) -> u64;
+        fn keymap_find(machine: *const u64, mode: u16, action: u16) -> u64;
+        fn keymap_free(machine: *const u64) -> u64;
     }
+
+    /// The calls beside keys and pops.
+    pub const CALLS: [(&str, fn(&mut Lent) -> u64); 4] = [
+        ("`keymap_bind`, a mapping of two keys", Lent::bind),
+        ("`keymap_find`, of an action that no step has", Lent::find),
+        ("`keymap_mode`", Lent::mode),
+        ("`keymap_free`", Lent::free),
+    ];
 
     pub struct Lent(Vec<u64>);
 
@@ -98,6 +110,24 @@ pub mod lent {
             let refusal = unsafe { keymap_open(words.as_mut_ptr(), map.as_ptr(), map.len()) };
             assert_eq!(refusal, 0, "the map is refused");
             Lent(words)
+        }
+
+        /// A mapping in mode 1 of the keys 1 and 2 with action 3, bound again and again: only the first makes nodes.
+        fn bind(&mut self) -> u64 {
+            let binding = [0, 1, 2, 0, 0, 1, 0, 0, 2, 0, 1, 3, 0, 0, 0];
+            unsafe { keymap_bind(self.0.as_mut_ptr(), binding.as_ptr(), binding.len()) }
+        }
+
+        fn find(&mut self) -> u64 {
+            unsafe { keymap_find(self.0.as_ptr(), 1, 65_535) }
+        }
+
+        fn mode(&mut self) -> u64 {
+            unsafe { keymap_mode(self.0.as_ptr()) }
+        }
+
+        fn free(&mut self) -> u64 {
+            unsafe { keymap_free(self.0.as_ptr()) }
         }
 
         pub fn press(&mut self, keys: &[u16]) -> Sum {

@@ -1,4 +1,4 @@
-//! The linked archive `libmapfile.a`, for the comparison and for the benchmark.
+//! The linked archive `libkeymap.a`, for the comparison and for the benchmark.
 
 extern "C" {
     /// `include/keymap.h` says what it does.

@@ -1,10 +1,9 @@
 //! The input of the program `callplay` and what it must print. An input is numbers as in a map file: the three tables, then
 //! calls to the end. The answers are those of model and original; find and hint, which document 01 leaves free, are held to
-//! the model's nodes.
+//! the model's nodes. The same lines hold for the calls of C on one machine.
 
-use crate::bytes::put_number;
 use crate::calls::{Answer, Call, Tables};
-use crate::cases::{put_binding, put_tables};
+use crate::cases::{bytes_of, put_binding, put_tables};
 use crate::graph::NodeAction;
 use crate::met::met_named;
 use crate::play::{Both, Seen};
@@ -80,29 +79,28 @@ fn put_call(call: &Call, out: &mut Vec<u32>) {
     }
 }
 
-fn put_item(item: &Item, out: &mut Vec<u8>) {
+/// An item's bytes. Those of a binding are the map file's too.
+pub fn bytes_of_item(item: &Item) -> Vec<u8> {
     let mut numbers = vec![];
     match item {
         Item::Call(call) => put_call(call, &mut numbers),
         Item::Find(mode, action) => numbers.extend([7, *mode as u32, *action as u32]),
         Item::Hint => numbers.push(8),
         Item::Unknown(call) => numbers.extend(call),
-        Item::Malformed(bytes) => out.extend(bytes),
+        Item::Malformed(bytes) => return bytes.clone(),
     }
-    numbers.iter().for_each(|&n| put_number(n, out));
+    bytes_of(&numbers)
 }
 
 impl Play {
     fn opened(tables: &Tables) -> Self {
         let mut numbers = vec![];
         put_tables(tables, &mut numbers);
-        let mut input = vec![];
-        numbers.iter().for_each(|&n| put_number(n, &mut input));
-        Play { input, lines: vec![] }
+        Play { input: bytes_of(&numbers), lines: vec![] }
     }
 
     fn add(&mut self, item: &Item, line: Line) {
-        put_item(item, &mut self.input);
+        self.input.extend(bytes_of_item(item));
         self.lines.push(line);
     }
 
@@ -141,37 +139,97 @@ fn hint(both: &Both) -> Line {
     Line::Free(left, both.model.mode())
 }
 
-/// The inputs that a list comes to, in order. An accepted open begins a new one; a refused one is an input of its own.
-/// At the end of each the queue is popped and each remembered sequence repeated, so that what the list left is seen.
-pub fn plays(list: &[Item]) -> Result<Vec<Play>, String> {
-    let mut both = Both::fresh();
-    let mut plays = vec![Play::opened(&Tables::default())];
-    for item in list {
-        if let Item::Call(Call::Open(tables)) = item {
-            open(&mut both, tables, &mut plays)?;
-            continue;
-        }
-        let play = plays.last_mut().unwrap();
-        if !play.is_refused() {
-            let line = answer(&mut both, item)?;
-            play.add(item, line);
-        }
-    }
-    show_rest(&mut both, plays.last_mut().unwrap())?;
-    plays.retain(|p| !p.lines.is_empty());
-    Ok(plays)
+/// What a list comes to.
+pub struct Plays {
+    /// The inputs of `callplay`, in order. An accepted open begins a new one; a refused one is an input of its own.
+    pub inputs: Vec<Play>,
+    /// The items with their lines as they come on one machine, the opens among them.
+    pub calls: Vec<(Item, Line)>,
 }
 
-fn open(both: &mut Both, tables: &Tables, plays: &mut Vec<Play>) -> Result<(), String> {
-    let mut play = Play::opened(tables);
-    let was = plays.pop().unwrap();
-    if both.call(&Call::Open(tables.clone()))?.answer == Answer::Accepted {
-        plays.extend([was, play]);
-    } else {
-        play.lines.push(Line::Text("refused 1".into()));
-        plays.extend([play, was]);
+/// The plays of a list. At its end the queue is popped and each remembered sequence repeated, so that what it left is seen.
+pub fn plays(list: &[Item]) -> Result<Plays, String> {
+    let mut playing = Playing::begun();
+    for item in list {
+        playing.item(item)?;
     }
-    Ok(())
+    playing.show_rest()?;
+    playing.plays.inputs.retain(|p| !p.lines.is_empty());
+    Ok(playing.plays)
+}
+
+/// A list on its way.
+struct Playing {
+    both: Both,
+    plays: Plays,
+}
+
+impl Playing {
+    fn begun() -> Self {
+        let plays = Plays { inputs: vec![Play::opened(&Tables::default())], calls: vec![] };
+        Playing { both: Both::fresh(), plays }
+    }
+
+    fn item(&mut self, item: &Item) -> Result<(), String> {
+        match item {
+            Item::Call(Call::Open(tables)) => self.open(item, tables),
+            _ if self.is_refused() => Ok(()),
+            _ => self.add(item),
+        }
+    }
+
+    fn open(&mut self, item: &Item, tables: &Tables) -> Result<(), String> {
+        let seen = self.both.call(&Call::Open(tables.clone()))?;
+        let mut play = Play::opened(tables);
+        let was = self.plays.inputs.pop().unwrap();
+        if seen.answer == Answer::Accepted {
+            self.plays.inputs.extend([was, play]);
+        } else {
+            play.lines.push(Line::Text("refused 1".into()));
+            self.plays.inputs.extend([play, was]);
+        }
+        self.plays.calls.push((item.clone(), settled(&seen)));
+        Ok(())
+    }
+
+    fn add(&mut self, item: &Item) -> Result<(), String> {
+        let line = answer(&mut self.both, item)?;
+        self.put(item, line);
+        Ok(())
+    }
+
+    fn put(&mut self, item: &Item, line: Line) {
+        self.plays.calls.push((item.clone(), line.clone()));
+        self.plays.inputs.last_mut().unwrap().add(item, line);
+    }
+
+    fn is_refused(&self) -> bool {
+        self.plays.inputs.last().unwrap().is_refused()
+    }
+
+    fn show_rest(&mut self) -> Result<(), String> {
+        if self.is_refused() {
+            return Ok(());
+        }
+        self.empty_queue()?;
+        for sequence in 0..8 {
+            if !self.both.model.sequence(sequence).is_empty() {
+                self.add(&Item::Call(Call::Repeat(sequence, None)))?;
+                self.empty_queue()?;
+            }
+        }
+        Ok(())
+    }
+
+    fn empty_queue(&mut self) -> Result<(), String> {
+        loop {
+            let seen = self.both.call(&Call::Pop)?;
+            self.put(&Item::Call(Call::Pop), settled(&seen));
+            if seen.answer == Answer::Nothing {
+                return Ok(());
+            }
+        }
+    }
 }
 
 fn answer(both: &mut Both, item: &Item) -> Result<Line, String> {
@@ -188,30 +246,4 @@ fn answer(both: &mut Both, item: &Item) -> Result<Line, String> {
             Line::Text("refused 9".into())
         },
     })
-}
-
-fn show_rest(both: &mut Both, play: &mut Play) -> Result<(), String> {
-    if play.is_refused() {
-        return Ok(());
-    }
-    empty_queue(both, play)?;
-    for sequence in 0..8 {
-        if !both.model.sequence(sequence).is_empty() {
-            let repeat = Item::Call(Call::Repeat(sequence, None));
-            let line = answer(both, &repeat)?;
-            play.add(&repeat, line);
-            empty_queue(both, play)?;
-        }
-    }
-    Ok(())
-}
-
-fn empty_queue(both: &mut Both, play: &mut Play) -> Result<(), String> {
-    loop {
-        let seen = both.call(&Call::Pop)?;
-        play.add(&Item::Call(Call::Pop), settled(&seen));
-        if seen.answer == Answer::Nothing {
-            return Ok(());
-        }
-    }
 }

@@ -7,6 +7,7 @@ use std::time::{Duration, Instant};
 
 use crate::calllist::{plays, Line, List, Play};
 use crate::cases::{any_case_of, input_of_case, Case};
+use crate::lent;
 use crate::mapfile;
 use crate::met;
 use crate::ours::{self, Programs};
@@ -36,6 +37,7 @@ impl Contest {
     pub fn run(&self, seconds: u64, first: u64) -> bool {
         expect_answers();
         expect_runs();
+        lent::expect_calls();
         let end = Instant::now() + Duration::from_secs(seconds);
         let mut seed = first;
         while Instant::now() < end {
@@ -47,7 +49,8 @@ impl Contest {
         met::print();
         let turns = seed - first;
         let runs = turns * RUNS_A_LIST;
-        println!("{turns} lists on callplay, {runs} runs on the archive and {turns} inputs of keyplay");
+        println!("{turns} lists on callplay, the same {turns} on a lent machine of the archive by its C functions");
+        println!("{runs} runs on the archive and {turns} inputs of keyplay");
         println!("seeds {first} to {}: no difference in {seconds} seconds", seed - 1);
         true
     }
@@ -106,7 +109,10 @@ impl Contest {
 
     fn list_difference(&self, list: &List) -> Option<String> {
         match guarded(|| plays(list)) {
-            Ok(plays) => plays.iter().find_map(|p| self.play_difference(p)),
+            // the machine first: it needs no process
+            Ok(plays) => {
+                lent::difference(&plays.calls).or_else(|| plays.inputs.iter().find_map(|p| self.play_difference(p)))
+            },
             Err(e) => Some(e),
         }
     }

@@ -13,6 +13,8 @@ mod differences;
 mod edges;
 mod gen;
 mod graph;
+mod lent;
+mod machine;
 mod mapfile;
 mod met;
 mod model;

@@ -38,6 +38,15 @@ impl<'a> Reader<'a> {
         self.at == self.bytes.len()
     }
 
+    /// 9 where bytes are left.
+    fn ended(&self) -> Read<()> {
+        if self.at_end() {
+            Ok(())
+        } else {
+            refused(9)
+        }
+    }
+
     fn rest(&self) -> &'a [u8] {
         &self.bytes[self.at..]
     }
@@ -170,11 +179,8 @@ fn read_map(map: &[u8]) -> Read<Both> {
         let binding = reader.binding()?;
         must(&mut both, &binding)?;
     }
-    if reader.at_end() {
-        Ok(both)
-    } else {
-        refused(9)
-    }
+    reader.ended()?;
+    Ok(both)
 }
 
 /// Tables and bindings of a map file that can be read whole.
@@ -184,6 +190,27 @@ pub fn bindings_of(map: &[u8]) -> Option<(Tables, Vec<Call>)> {
     let count = reader.number().ok()?;
     let bindings = (0..count).map(|_| reader.binding().ok()).collect::<Option<Vec<Call>>>()?;
     reader.at_end().then_some((tables, bindings))
+}
+
+/// Why a map that has no binding cannot be read, if it cannot.
+pub fn tables_refusal(map: &[u8]) -> Option<u16> {
+    let mut reader = Reader::new(map);
+    let read = reader.tables().and_then(|_| reader.number()).and_then(|_| reader.ended());
+    refusal_of(read)
+}
+
+/// Why bytes cannot be read as one binding and no more, if they cannot.
+pub fn binding_refusal(binding: &[u8]) -> Option<u16> {
+    let mut reader = Reader::new(binding);
+    let read = reader.binding().and_then(|_| reader.ended());
+    refusal_of(read)
+}
+
+fn refusal_of(read: Read<()>) -> Option<u16> {
+    match read {
+        Err(Stop::Refused(n)) => Some(n),
+        _ => None,
+    }
 }
 
 fn read_keys(bytes: &[u8]) -> Read<Vec<u16>> {

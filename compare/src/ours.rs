@@ -12,8 +12,13 @@ use crate::archive;
 #[cfg(not(linked))]
 mod archive {
     pub fn run(_: &[u8], _: &[u8], _: &mut [u8], _: u16) -> u64 {
-        crate::stop("this program was built without the archive: compare/run builds it with it")
+        super::not_linked()
     }
+}
+
+#[cfg(not(linked))]
+pub fn not_linked() -> ! {
+    crate::stop("this program was built without the archive: compare/run builds it with it")
 }
 
 /// What the archive returns, and the output.

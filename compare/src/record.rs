@@ -81,7 +81,7 @@ pub fn lists(count: usize) -> Result<Recorded, String> {
         let list: List = list_of(seed).into_iter().filter(|item| *item != Item::Hint).collect();
         let text = |play: &Play| play.lines.iter().map(|l| l.only().map(|l| l + "\n")).collect::<Option<String>>();
         let sample = |play: Play| text(&play).map(|text| Sample { input: play.input, text });
-        Ok(plays(&list)?.into_iter().filter_map(sample).collect())
+        Ok(plays(&list)?.inputs.into_iter().filter_map(sample).collect())
     })
 }
 
