@@ -1,6 +1,6 @@
 //! A list of calls on one lent machine of the archive, by its C functions. Each answer is written as the line that `callplay`
 //! prints for it, so that library and program are held to the same lines. A refused call, and one that only looks, must leave
-//! every byte of the machine as it was.
+//! every byte of the machine as it was: that is more than the contracts say, which speak of what the bytes mean.
 //!
 //! C gets the tables as a map without bindings, and a binding as its bytes. Every value that a list can hold can be said so:
 //! one that is out of its range is refused with 1 when it is read, and a count that is too large before what it counts.

@@ -5,6 +5,7 @@ use mathlib.Core.Option.{Option, none, some}
 use mathlib.Core.List.{List}
 use lib.Dec.{leb}
 use Rattle.rules.specs.Basics.{Result, accept, refuse, unless}
+use Rattle.rules.specs.Values.{largest}
 use Rattle.rules.specs.Graph.{Graph}
 use Rattle.rules.specs.Calls.{Machine, graphKind, settled, repeat-call, Answer, Accepted, Refused, Popped, Nothing, Pressed, PressRefused, FindFits, HintFits}
 use Rattle.rules.specs.MapFile.{readMap}
@@ -56,7 +57,7 @@ bindMap m bytes = settled graphKind m (bindAlone m bytes)
 
 -- repeat with another count and mark: 1 a count over the largest number
 abbrev pub repeatOver : Machine graphKind → (sequence count mark : ℕ) → Machine graphKind × Answer
-repeatOver m sequence count mark = settled graphKind m (unless (leb count 65535) 1 (repeat-call graphKind sequence (some (record { count = count; mark = mark })) m))
+repeatOver m sequence count mark = settled graphKind m (unless (leb count largest) 1 (repeat-call graphKind sequence (some (record { count = count; mark = mark })) m))
 
 -- ---- memory
 
