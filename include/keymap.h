@@ -42,8 +42,8 @@ extern "C" {
  * two machines know nothing of each other. Bytes are lent as a pointer and their count; the pointer is never null, even
  * where the count is 0.
  *
- * The archive calls memcpy, memmove and memset and nothing else, takes no heap and has no data of its own. Each call takes
- * this much stack on x86-64, measured by examples/stack.c and rounded up:
+ * The archive calls memcpy, memmove and memset and nothing else, takes no heap and has no data of its own. No call took more
+ * stack than this on x86-64 in the runs of examples/stack.c, which measures it; that is no proof of a bound:
  *
  *     keymap_size          1 KiB
  *     keymap_open        152 KiB
