@@ -1,7 +1,8 @@
 /*
  * How much stack each call takes. The calls are made on painted stacks, one for each function, with small maps, keys and
- * arguments from a fixed seed, until each function has met all its refusals too. It prints the most that a function took, in
- * KiB and rounded up. keymap.h has these numbers; a firmware on another processor can measure its own.
+ * arguments from a fixed seed and with maps that are full, until each function has met all its refusals too. It prints the most
+ * that a function took, in KiB and rounded up, and fails if that is more than a scanner has for it. keymap.h has these numbers;
+ * a firmware on another processor can measure its own.
  */
 #define _DEFAULT_SOURCE
 #include "../include/keymap.h"
@@ -10,7 +11,7 @@
 #include <string.h>
 #include <ucontext.h>
 
-enum { STACK = 1 << 20, PAINT = 0xA5, MAPS = 200, BINDINGS = 60, KEYS = 300, MOST_MAP = 1 << 15 };
+enum { STACK = 1 << 20, PAINT = 0xA5, MAPS = 200, BINDINGS = 60, KEYS = 300, MOST_MAP = 1 << 18, MOST_PAIRS = 1 << 12 };
 
 static uint64_t storage[KEYMAP_SIZE / 8];
 static keymap_machine *const machine = (keymap_machine *)storage;
@@ -20,7 +21,7 @@ static uint8_t map[MOST_MAP];
 static size_t map_count;
 static uint8_t keys[3 * KEYS];
 static size_t keys_count;
-static uint8_t output[4096];
+static uint8_t output[MOST_MAP];
 static size_t output_count;
 static uint16_t first;
 static uint16_t second;
@@ -62,20 +63,25 @@ static void find(void) {
 static void free_nodes(void) {
     result = keymap_free(machine);
 }
+static void write_map(void) {
+    result = keymap_write(machine, output, output_count);
+}
 static void run(void) {
     result = keymap_run(map, map_count, keys, keys_count, output, output_count, second);
 }
 
-enum { NOTHING, SIZE, OPEN, BIND, KEY, POP, REPEAT, REPEAT_OVER, RESET, MODE, FIND, FREE, RUN, CALLS };
+enum { NOTHING, SIZE, OPEN, BIND, KEY, POP, REPEAT, REPEAT_OVER, RESET, MODE, FIND, FREE, WRITE, RUN, CALLS };
 
 static void (*const calls[CALLS])(void) = {
-    nothing, size, open_map, bind, key, pop, repeat, repeat_over, reset, mode, find, free_nodes, run};
+    nothing, size, open_map, bind, key, pop, repeat, repeat_over, reset, mode, find, free_nodes, write_map, run};
 static const char *const names[CALLS] = {"", "size", "open", "bind", "key", "pop", "repeat", "repeat_over", "reset", "mode",
-                                         "find", "free", "run"};
+                                         "find", "free", "write", "run"};
+/* The most that each may take, in KiB. A key, a pop and a reset may be made where little stack is left. */
+static const unsigned limits[CALLS] = {0, 384, 384, 384, 32, 32, 384, 384, 32, 384, 384, 384, 384, 256};
 static uint64_t stacks[CALLS][STACK / 8];
 
 /* The refusals that must be met and those that were, a bit for each number; bit 0 is acceptance. */
-static const unsigned wanted[CALLS] = {0, 0, 0x21f, 0x21f, 0x1e1, 0, 0x23, 0x23, 0x61, 0, 0x3, 0, 0x7ff};
+static const unsigned wanted[CALLS] = {0, 0, 0xa1f, 0xa1f, 0x1e1, 0, 0x23, 0x23, 0x61, 0, 0x3, 0, 0x401, 0xfff};
 static unsigned met[CALLS];
 
 /* Makes the call on its stack. */
@@ -194,19 +200,113 @@ static void put_edge(unsigned key_number) {
     put(key_number);
 }
 
-/* A map of so many edges is run and opened, and one edge more is bound. */
+/* A mapping of four parts, each a key at most 255 times, takes 2,040 edges. */
+static void put_many_edges(void) {
+    put(0);
+    put(0);
+    put(4);
+    for (unsigned i = 0; i < 4; i++) {
+        put(2);
+        put(255);
+        put(0);
+        put(1000 + i);
+    }
+    put(0);
+    put(1);
+    put(7);
+    put(0);
+    put(0);
+    put(0);
+}
+
+/* A map of so many edges, 2,040 or more, is run and opened, and one edge more is bound. */
 static void work_with_edges(unsigned count) {
     map_count = 0;
     put(0);
     put(0);
     put(0);
-    put(count);
-    for (unsigned i = 0; i < count; i++)
+    put(1 + count - 2040);
+    put_many_edges();
+    for (unsigned i = 2040; i < count; i++)
         put_edge(i);
     make(RUN);
     make(OPEN);
     map_count = 0;
     put_edge(count);
+    make(BIND);
+}
+
+/* A count and so many numbers of the longest form. */
+static void put_full_list(unsigned count) {
+    put(count);
+    while (count-- > 0)
+        put(65535);
+}
+
+/* As many classes, modes and rules as there can be. */
+static void put_full_tables(void) {
+    put(16);
+    for (unsigned i = 0; i < 16; i++) {
+        put(255);
+        put(65535);
+        put(65535);
+    }
+    put(16);
+    for (unsigned i = 0; i < 16; i++) {
+        put_full_list(4);
+        put_full_list(4);
+        put(16);
+    }
+    put(64);
+    for (unsigned i = 0; i < 64; i++) {
+        put(15);
+        put(65535);
+        put(65535);
+        put(7);
+        put(4);
+    }
+}
+
+/*
+ * A mapping of 32 keys, always the same, with four actions, both modes and a mark. The first makes the nodes. The others have
+ * repeats, for more bytes: a part before the last follows an edge that is there, whatever its repeat.
+ */
+static void put_full_binding(int repeats) {
+    put(0);
+    put(0);
+    put(32);
+    for (unsigned i = 0; i < 32; i++) {
+        if (repeats && i < 31) {
+            put(2);
+            put(255);
+        } else {
+            put(0);
+        }
+        put(0);
+        put(65000 + i);
+    }
+    put(1);
+    put_full_list(4);
+    put(16);
+    put(16);
+    put(65535);
+}
+
+/* A map of so many bindings is run and opened, the machine's map is written, and one binding more is bound. */
+static void work_with_bindings(unsigned count) {
+    map_count = 0;
+    put_full_tables();
+    put(count);
+    for (unsigned i = 0; i < count; i++)
+        put_full_binding(i > 0);
+    make(RUN);
+    make(OPEN);
+    output_count = map_count;
+    make(WRITE);
+    output_count--;
+    make(WRITE);
+    map_count = 0;
+    put_full_binding(1);
     make(BIND);
 }
 
@@ -231,7 +331,7 @@ static void work_with(int strict, unsigned most_repeats) {
     for (keys_count = 0; keys_count < KEYS; keys_count++)
         keys[keys_count] = (uint8_t)(below(200) == 0 ? 0x80 : 48 + below(7));
     choose_key();
-    output_count = below(2) * sizeof output;
+    output_count = below(2) * MOST_PAIRS;
     make(RUN);
     make(OPEN);
     for (unsigned i = 0; i < KEYS; i++) {
@@ -257,10 +357,15 @@ static void work_with(int strict, unsigned most_repeats) {
             damage();
             make(BIND);
         }
+        if (below(9) == 0) {
+            output_count = below(2) * sizeof output;
+            make(WRITE);
+        }
     }
 }
 
 int main(void) {
+    int over = 0;
     /* What is linked late is linked by the first round, whose stacks are painted over. */
     for (int round = 0; round < 2; round++) {
         memset(stacks, PAINT, sizeof stacks);
@@ -268,16 +373,23 @@ int main(void) {
             work_with(i % 4 == 0, i % 3 == 0 ? 256 : 4);
         work_with_edges(2049);
         work_with_edges(2048);
+        work_with_bindings(1025);
+        work_with_bindings(1024);
         work_with_falling();
         make(NOTHING);
         make(SIZE);
     }
     for (int call = SIZE; call < CALLS; call++) {
+        unsigned taken = (unsigned)((depth(call) - depth(NOTHING) + 1023) / 1024);
         if ((wanted[call] & ~met[call]) != 0) {
             fprintf(stderr, "stack: keymap_%s has not met every refusal\n", names[call]);
             return 1;
         }
-        printf("keymap_%-12s %3u KiB\n", names[call], (unsigned)((depth(call) - depth(NOTHING) + 1023) / 1024));
+        printf("keymap_%-12s %3u KiB\n", names[call], taken);
+        if (taken > limits[call]) {
+            fprintf(stderr, "stack: keymap_%s takes %u KiB, and %u is the most\n", names[call], taken, limits[call]);
+            over = 1;
+        }
     }
-    return 0;
+    return over;
 }

@@ -2,7 +2,7 @@
  * Key maps for scanner firmware: link libkeymap.a.
  *
  * The firmware keeps a machine and opens it with a map. Then it presses each key of the clerk and pops the pairs that the
- * key gave. examples/shift.c is a whole shift.
+ * key gave. examples/shift.c is a whole shift. What was bound since the map came is sent back as a map: examples/shelf.c.
  *
  *   key       What the clerk presses, 0 to 65,535; one from 32,768 on that nothing is bound to is tried as 27 and the rest.
  *   class     A number, 0 to 255, by which a binding names all keys of some ranges.
@@ -46,8 +46,8 @@ extern "C" {
  * stack than this on x86-64 in the runs of examples/stack.c, which measures it; that is no proof of a bound:
  *
  *     keymap_size          1 KiB
- *     keymap_open        152 KiB
- *     keymap_bind         77 KiB
+ *     keymap_open        262 KiB
+ *     keymap_bind        112 KiB
  *     keymap_key          19 KiB
  *     keymap_pop          11 KiB
  *     keymap_repeat       34 KiB
@@ -56,11 +56,15 @@ extern "C" {
  *     keymap_mode          1 KiB
  *     keymap_find         33 KiB
  *     keymap_free          1 KiB
- *     keymap_run          90 KiB
+ *     keymap_write         2 KiB
+ *     keymap_run         234 KiB
+ *
+ * examples/stack.c also holds a key, a pop and a reset to 32 KiB, the run to 256 KiB and every call to 384 KiB, on any
+ * processor that it is built for.
  */
 typedef struct keymap_machine keymap_machine;
 
-#define KEYMAP_SIZE 40432
+#define KEYMAP_SIZE 187896
 #define KEYMAP_ALIGN 8
 
 /*
@@ -78,7 +82,8 @@ enum {
     KEYMAP_TRAIL = 7,    /* the trail would pass 64 keys: press a key that ends the path, or open the map again */
     KEYMAP_BUDGET = 8,   /* the budget is used up: press again with a larger one; if 65,535 are too few, the map loops */
     KEYMAP_NUMBER = 9,   /* the bytes end early, go on behind the end or hold a bad number: they are damaged or cut off */
-    KEYMAP_OUTPUT = 10   /* the pairs do not fit: lend more output, up to 65,536 bytes, or run fewer keys at once */
+    KEYMAP_OUTPUT = 10,  /* the pairs or the map do not fit: lend more output, or run fewer keys at once */
+    KEYMAP_BINDINGS = 11 /* 1,024 bindings are kept already: open a map that has fewer, and bind to that */
 };
 
 /* The refusal in a result; not for keymap_size, keymap_pop and keymap_mode, which are never refused. */
@@ -88,16 +93,17 @@ enum {
 size_t keymap_size(void);
 
 /*
- * Reads a map whole. The machine is then fresh with it: in mode 0, with no pair, no trail and empty sequences. The map's
- * bytes are not needed afterwards.
- * The result is the refusal: RANGE, NODES, EDGES, MODE or NUMBER.
+ * Reads a map whole. The machine is then fresh with it: in mode 0, with no pair, no trail and empty sequences. The bindings
+ * kept are those of the map. The map's bytes are not needed afterwards.
+ * The result is the refusal: RANGE, NODES, EDGES, MODE, NUMBER or BINDINGS.
  */
 uint64_t keymap_open(keymap_machine *machine, const uint8_t *map, size_t map_count);
 
 /*
- * Adds one binding, laid out as in a map and with nothing behind it. It is read to its end before it is added. All else stays
- * as it is.
- * The result is the refusal: RANGE, NODES, EDGES, MODE or NUMBER.
+ * Adds one binding, laid out as in a map and with nothing behind it. It is read to its end before it is added. It is kept for
+ * keymap_write, behind those before it; so is one that replaces another, and one of an empty path, which does nothing. A
+ * machine keeps 1,024, and BINDINGS is met last. All else stays as it is.
+ * The result is the refusal: RANGE, NODES, EDGES, MODE, NUMBER or BINDINGS.
  */
 uint64_t keymap_bind(keymap_machine *machine, const uint8_t *binding, size_t binding_count);
 
@@ -161,10 +167,27 @@ uint64_t keymap_free(const keymap_machine *machine);
 #define KEYMAP_FREE(result) ((unsigned)((result) / 32))
 
 /*
+ * Writes the machine's map to the front of the output: classes, modes and rules as they were opened, and the bindings kept, in
+ * their order. keymap_open takes those bytes; the machine that it makes has the same map, keeps the same bindings, and writes
+ * the same bytes. Keys, pairs, sequences and the entered mode are no part of a map. The whole output may be used, and
+ * KEYMAP_LONGEST bytes are enough for every map; most are far shorter.
+ * The result is length * 32 + refusal: OUTPUT. So many bytes were written, and the output behind them stays; refused, all of it
+ * is zeros.
+ */
+uint64_t keymap_write(const keymap_machine *machine, uint8_t *output, size_t output_count);
+
+/* Bytes of a map whose tables, lists, paths and bindings are as many as can be, each number in its longest form: reckoned from
+ * the ranges. A map that is longer would be refused with OUTPUT. */
+#define KEYMAP_LONGEST 253045
+
+/* Of what keymap_write and keymap_run wrote. */
+#define KEYMAP_LENGTH(result) ((size_t)((result) / 32))
+
+/*
  * Plays keys on a fresh machine of its own: reads the map, then all keys, presses each with the budget, and writes the pairs
  * after each to the output: action, count and mark. Keys and output are numbers as in a map: groups of seven bits, lowest
  * first, 0x80 set on all but the last. At most the first 65,536 bytes of the output are used.
- * The result is length * 32 + refusal: any of 1 to 10. So many bytes were written, and the output behind them stays; refused,
+ * The result is length * 32 + refusal: any of 1 to 11. So many bytes were written, and the output behind them stays; refused,
  * the length is 0 and the whole output is zeros.
  */
 uint64_t keymap_run(
@@ -172,8 +195,6 @@ uint64_t keymap_run(
     const uint8_t *keys, size_t keys_count,
     uint8_t *output, size_t output_count,
     uint16_t budget);
-
-#define KEYMAP_LENGTH(result) ((size_t)((result) / 32))
 
 #ifdef __cplusplus
 }

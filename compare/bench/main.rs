@@ -20,6 +20,7 @@ use std::time::Duration;
 
 use inputs::{keys_of, kinds_of, map_of, put_numbers, Map, SEED};
 use original::Original;
+use ours::lent::Lent;
 use sum::Sum;
 use timing::{clock, compare, rounds, Times};
 
@@ -36,7 +37,8 @@ const CORE_KEYS: usize = 100_000;
 const RUN_KEYS: usize = 60_000;
 const VALUE_KEYS: usize = 2_000;
 const KIND_KEYS: usize = 20_000;
-const CALL_TIMES: u16 = 2_000;
+/// How often a machine is read for calls that are made a few times on it.
+const TURNS: usize = 100;
 const ROOM: usize = 65_536;
 
 /// A map and a tape, in the forms that the two sides take.
@@ -101,7 +103,7 @@ impl Work {
         self.must_be("keymap_run", &self.keys[..RUN_KEYS], run);
         self.must_be("the key loop in place", &self.keys, ours::in_place(&self.bytes, &self.keys));
         self.must_be("the machine by value", few, ours::by_value(&self.bytes, few));
-        self.must_be("the lent machine", few, ours::lent::Lent::open(&self.bytes).press(few));
+        self.must_be("the lent machine", few, Lent::open(&self.bytes).press(few));
     }
 }
 
@@ -193,7 +195,7 @@ fn call_rows(works: &[Work]) {
     each_lent_rows(works);
 }
 
-/// Nanoseconds in which no machine can be copied: it has some 40,000 bytes. What takes less was put into the loop by the
+/// Nanoseconds in which no machine can be copied: its graph alone has 33,000 bytes. What takes less was put into the loop by the
 /// compiler, and its copies left out, so it says nothing of a call.
 const NO_COPY: f64 = 200.0;
 
@@ -214,15 +216,18 @@ fn each_call_rows(works: &[Work]) {
         BINDINGS[BINDINGS.len() - 1]
     );
     println!("|---|---|---|---|");
-    for (what, call) in ours::CALLS {
+    for (what, call, often) in ours::CALLS {
+        let turns = if often == ours::FEW { TURNS } else { 1 };
         let times = ends.map(|work| {
             let turn = |times: u16| {
                 clock(|| {
-                    black_box(ours::call(call, &work.bytes, black_box(times)));
+                    for _ in 0..turns {
+                        black_box(ours::call(call, &work.bytes, black_box(times)));
+                    }
                 })
             };
-            let [calls, reading] = compare([&mut || turn(CALL_TIMES), &mut || turn(0)]);
-            calls.less(reading).each(CALL_TIMES as usize)
+            let [calls, reading] = compare([&mut || turn(often), &mut || turn(0)]);
+            calls.less(reading).each(turns * often as usize)
         });
         println!("| {what} | {} | {} | {} |", hundredths(times[0]), hundredths(times[1]), call_verdict(times));
     }
@@ -233,25 +238,41 @@ fn each_lent_rows(works: &[Work]) {
     let ends = [&works[0], &works[works.len() - 1]];
     println!("\n| lent call | µs at {} bindings | at {} |", BINDINGS[0], BINDINGS[BINDINGS.len() - 1]);
     println!("|---|---|---|");
+    let binds = ends.map(bind_times);
+    println!("| `keymap_bind`, a mapping of two keys | {} | {} |", hundredths(binds[0]), hundredths(binds[1]));
     for (what, call) in ours::lent::CALLS {
         let times = ends.map(|work| {
-            let mut machine = ours::lent::Lent::open(&work.bytes);
+            let mut machine = Lent::open(&work.bytes);
             let [calls] = compare([&mut || {
                 clock(|| {
-                    for _ in 0..CALL_TIMES {
+                    for _ in 0..ours::MANY {
                         black_box(call(&mut machine));
                     }
                 })
             }]);
-            calls.each(CALL_TIMES as usize)
+            calls.each(ours::MANY as usize)
         });
         println!("| {what} | {} | {} |", hundredths(times[0]), hundredths(times[1]));
     }
 }
 
+/// A bound call is kept, so after a few the machine is put back as it was.
+fn bind_times(work: &Work) -> Times {
+    let mut bound = Lent::open(&work.bytes);
+    // the first makes the nodes
+    assert_eq!(bound.bind(), 0);
+    let mut machine = bound.clone();
+    let mut few = || {
+        machine.put_back(&bound);
+        clock(|| (0..ours::FEW).for_each(|_| assert_eq!(black_box(machine.bind()), 0)))
+    };
+    let [calls] = compare([&mut || (0..TURNS).map(|_| few()).sum()]);
+    calls.each(TURNS * ours::FEW as usize)
+}
+
 fn lent_cells(work: &Work, calls: usize) -> (String, &'static str) {
     let [lent] = compare([&mut || {
-        let mut machine = ours::lent::Lent::open(&work.bytes);
+        let mut machine = Lent::open(&work.bytes);
         clock(|| {
             black_box(machine.press(&work.keys[..VALUE_KEYS]));
         })
@@ -260,33 +281,85 @@ fn lent_cells(work: &Work, calls: usize) -> (String, &'static str) {
     (hundredths(lent), target(lent.best <= 800.0))
 }
 
-/// Milliseconds to read a map: a run without keys.
-fn reading_rows(works: &[Work]) {
-    println!("| map | bytes | ms | at most 20 ms |");
-    println!("|---|---|---|---|");
+/// The maps that are read and written, with their bytes.
+fn maps_of(works: &[Work]) -> Vec<(String, Vec<u8>)> {
     let small = BINDINGS.iter().zip(works).map(|(n, w)| (format!("{n} bindings"), w.bytes.clone()));
-    let large = maps::large().into_iter().map(|l| (l.what, l.bytes));
-    for (what, bytes) in small.chain(large) {
+    small.chain(maps::large().into_iter().map(|l| (l.what, l.bytes))).collect()
+}
+
+/// So often that a turn of small maps is longer than the clock's own call.
+fn often(bytes: &[u8]) -> usize {
+    20_000usize.div_ceil(bytes.len())
+}
+
+fn ms(times: Times) -> String {
+    format!("{:.3} ({:.3})", times.best / 1e6, times.median / 1e6)
+}
+
+/// Milliseconds to read a map: a run without keys, and the opening of a lent machine.
+fn reading_rows(works: &[Work]) {
+    println!("| map | bytes | keymap_run, ms | keymap_open, ms | at most 20 ms for 60,000 bytes |");
+    println!("|---|---|---|---|---|");
+    for (what, bytes) in maps_of(works) {
         let mut output = vec![0; ROOM];
         let result = ours::run(&bytes, &[], &mut output);
         assert_eq!(result, 0, "{what}: refused with {}", result % 32);
-        // small maps are read so often that a turn is longer than the clock's own call
-        let often = 20_000usize.div_ceil(bytes.len());
-        let [times] = compare([&mut || {
+        let mut machine = Lent::open(&bytes);
+        let often = often(&bytes);
+        let [run, open] = compare([
+            &mut || {
+                clock(|| {
+                    for _ in 0..often {
+                        black_box(ours::run(&bytes, &[], &mut output));
+                    }
+                })
+            },
+            &mut || {
+                clock(|| {
+                    for _ in 0..often {
+                        black_box(machine.reopen(&bytes));
+                    }
+                })
+            },
+        ]);
+        let (run, open) = (run.each(often), open.each(often));
+        let most = 20e6 * (bytes.len() as f64 / 60e3).max(1.0);
+        let met = target(run.best <= most && open.best <= most);
+        println!("| {what} | {} | {} | {} | {met} |", bytes.len(), ms(run), ms(open));
+    }
+}
+
+/// What a machine that was opened with a map writes must be that map.
+fn write_back(machine: &Lent, map: &[u8], output: &mut [u8]) {
+    let result = machine.write(output);
+    if result != map.len() as u64 * 32 || output[..map.len()] != *map {
+        eprintln!("compare/bench: keymap_write gives {result}, and not the map that was opened");
+        std::process::exit(1);
+    }
+}
+
+/// Milliseconds to write the map of a machine: to an output that it fills, and to one that is a byte too short.
+fn writing_rows(works: &[Work]) {
+    println!("| map | bytes | keymap_write, ms | refused, ms | at most 1 ms |");
+    println!("|---|---|---|---|---|");
+    for (what, bytes) in maps_of(works) {
+        let machine = Lent::open(&bytes);
+        let mut output = vec![0; bytes.len()];
+        write_back(&machine, &bytes, &mut output);
+        assert_eq!(machine.write(&mut output[1..]), 10, "{what}: too short");
+        let often = often(&bytes);
+        let mut turn = |from: usize| {
             clock(|| {
                 for _ in 0..often {
-                    black_box(ours::run(&bytes, &[], &mut output));
+                    black_box(machine.write(&mut output[from..]));
                 }
             })
-        }]);
-        let times = times.each(often);
-        println!(
-            "| {what} | {} | {:.3} ({:.3}) | {} |",
-            bytes.len(),
-            times.best / 1e6,
-            times.median / 1e6,
-            target(times.best <= 20e6)
-        );
+        };
+        let [write] = compare([&mut || turn(0)]);
+        let [refused] = compare([&mut || turn(1)]);
+        let (write, refused) = (write.each(often), refused.each(often));
+        let met = target(write.best <= 1e6 && refused.best <= 1e6);
+        println!("| {what} | {} | {} | {} | {met} |", bytes.len(), ms(write), ms(refused));
     }
 }
 
@@ -375,19 +448,33 @@ fn stack_rows(works: &[Work]) {
     row(
         "keys and pops on a lent machine, with its opening",
         stack::peak(|| {
-            black_box(ours::lent::Lent::open(&most.bytes).press(keys));
+            black_box(Lent::open(&most.bytes).press(keys));
         }),
     );
+    write_stack_rows(row);
+}
+
+fn write_stack_rows(row: impl Fn(&str, usize)) {
+    let full = maps::full();
+    let mut machine = Lent::open(&full.bytes);
+    let mut output = vec![0; full.bytes.len()];
+    let opened = stack::peak(|| assert_eq!(machine.reopen(&full.bytes), 0));
+    row(&format!("keymap_open: {}", full.what), opened);
+    let written = stack::peak(|| write_back(&machine, &full.bytes, &mut output));
+    row("keymap_write of the same", written);
+    let refused = stack::peak(|| assert_eq!(machine.write(&mut output[1..]), 10));
+    row("keymap_write of the same, refused", refused);
 }
 
 /// The sections' names, heads and tables. A name as argument gives that section alone.
 type Section = (&'static str, &'static str, fn(&[Work]));
 
-const SECTIONS: [Section; 6] = [
+const SECTIONS: [Section; 7] = [
     ("keys", "Keys, ns each; target: ratio at most 0.5 at 10 to 200 bindings", key_rows),
     ("kinds", "Kinds of keys, ns each", kind_rows),
     ("calls", "Calls by value and lent", call_rows),
     ("reading", "Reading a map", reading_rows),
+    ("writing", "Writing a map", writing_rows),
     ("graph", "The key graph", graph_rows),
     ("stack", "Stack", stack_rows),
 ];

@@ -56,15 +56,20 @@ unsafe extern "C" fn opens(_: *const u8, _: usize, times: u16) -> u64 {
     bench_opens(times)
 }
 
-/// The calls that are timed one by one.
-pub const CALLS: [(&str, Call); 7] = [
-    ("open, with 16 modes and 64 rules", opens),
-    ("add_mapping, two keys", bench_mappings),
-    ("add_prefix, two keys", bench_prefixes),
-    ("input_key", bench_inputs),
-    ("repeat, 64 pairs remembered", bench_repeats),
-    ("reset_mode", bench_resets),
-    ("find, mostly of an action that no step has", bench_finds),
+/// How often a call is made on one machine. One that binds is kept each time, and a machine of a thousand bindings has room for
+/// some twenty more.
+pub const MANY: u16 = 2_000;
+pub const FEW: u16 = 20;
+
+/// The calls that are timed one by one, with how often on one machine.
+pub const CALLS: [(&str, Call, u16); 7] = [
+    ("open, with 16 modes and 64 rules", opens, MANY),
+    ("add_mapping, two keys", bench_mappings, FEW),
+    ("add_prefix, two keys", bench_prefixes, FEW),
+    ("input_key", bench_inputs, MANY),
+    ("repeat, 64 pairs remembered", bench_repeats, MANY),
+    ("reset_mode", bench_resets, MANY),
+    ("find, mostly of an action that no step has", bench_finds, MANY),
 ];
 
 pub fn call(call: Call, map: &[u8], times: u16) -> u64 {
@@ -92,28 +97,41 @@ pub mod lent {
         fn keymap_mode(machine: *const u64) -> u64;
         fn keymap_find(machine: *const u64, mode: u16, action: u16) -> u64;
         fn keymap_free(machine: *const u64) -> u64;
+        fn keymap_write(machine: *const u64, output: *mut u8, output_count: usize) -> u64;
     }
 
-    /// The calls beside keys and pops.
-    pub const CALLS: [(&str, fn(&mut Lent) -> u64); 4] = [
-        ("`keymap_bind`, a mapping of two keys", Lent::bind),
+    /// The calls that can be made again and again, beside keys and pops.
+    pub const CALLS: [(&str, fn(&mut Lent) -> u64); 3] = [
         ("`keymap_find`, of an action that no step has", Lent::find),
         ("`keymap_mode`", Lent::mode),
         ("`keymap_free`", Lent::free),
     ];
 
+    #[derive(Clone)]
     pub struct Lent(Vec<u64>);
 
     impl Lent {
         pub fn open(map: &[u8]) -> Self {
-            let mut words = vec![0u64; unsafe { keymap_size() }.div_ceil(8)];
-            let refusal = unsafe { keymap_open(words.as_mut_ptr(), map.as_ptr(), map.len()) };
-            assert_eq!(refusal, 0, "the map is refused");
-            Lent(words)
+            let mut machine = Lent(vec![0u64; unsafe { keymap_size() }.div_ceil(8)]);
+            assert_eq!(machine.reopen(map), 0, "the map is refused");
+            machine
         }
 
-        /// A mapping in mode 1 of the keys 1 and 2 with action 3, bound again and again: only the first makes nodes.
-        fn bind(&mut self) -> u64 {
+        pub fn reopen(&mut self, map: &[u8]) -> u64 {
+            unsafe { keymap_open(self.0.as_mut_ptr(), map.as_ptr(), map.len()) }
+        }
+
+        /// Its bytes are those of another machine from now on.
+        pub fn put_back(&mut self, other: &Lent) {
+            self.0.copy_from_slice(&other.0);
+        }
+
+        pub fn write(&self, output: &mut [u8]) -> u64 {
+            unsafe { keymap_write(self.0.as_ptr(), output.as_mut_ptr(), output.len()) }
+        }
+
+        /// A mapping in mode 1 of the keys 1 and 2 with action 3. Bound again it makes no node, but is kept.
+        pub fn bind(&mut self) -> u64 {
             let binding = [0, 1, 2, 0, 0, 1, 0, 0, 2, 0, 1, 3, 0, 0, 0];
             unsafe { keymap_bind(self.0.as_mut_ptr(), binding.as_ptr(), binding.len()) }
         }

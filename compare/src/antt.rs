@@ -138,6 +138,12 @@ pub fn graph_row(name: String, calls: &[Call], graph: &Graph) -> Row {
     Row { name, value: format!("built {calls}\n    {nodes}\n    {count} {edges}") }
 }
 
+/// The map file after binding calls, as C gets it in a lent output.
+pub fn file_row(name: String, calls: &[Call], lent: &[u8], code: u64, output: &[u8]) -> Row {
+    let calls = list(calls, call);
+    Row { name, value: format!("filed {calls}\n    {} {code} {}", bytes(lent), bytes(output)) }
+}
+
 fn node(n: &Node) -> String {
     let action = match &n.action {
         NodeAction::Empty => "Empty".into(),
@@ -167,14 +173,17 @@ use Rattle.rules.specs.ListReader.{listKind, open-ListReader}
 use Rattle.rules.specs.Numbers.{open-Numbers}
 use Rattle.rules.specs.MapFile.{open-MapFile}
 use Rattle.rules.specs.Run.{open-Run}
+use Rattle.rules.specs.Writing.{open-Writing}
 use Rattle.CRATE.proofs.Words.{Tried, _⇒_, seen, part, doing, class, mode, rule, tables, context, key, look, tryAll, outcome}
 use Rattle.CRATE.proofs.Words.{Ran, ran, runOutcome, Printed, printed, playOutcome, Built, built, node, led, buildOutcome}
+use Rattle.CRATE.proofs.Words.{Filed, filed, fileOutcome}
 
 ";
 
 const OPENED: &str =
     "unfolding open-Basics open-Values open-Tables open-Graph open-KeyLoop open-Calls open-ListReader \
-                      open-Numbers open-MapFile open-Run look tryAll outcome runOutcome playOutcome buildOutcome";
+                      open-Numbers open-MapFile open-Run open-Writing look tryAll outcome runOutcome playOutcome \
+                      buildOutcome fileOutcome";
 
 /// What the rows of a file are, and the function of `rows/words.txt` that gives the rules' own row for one of them.
 pub struct Sort {

@@ -1,12 +1,13 @@
 //! The input of the program `callplay` and what it must print. An input is numbers as in a map file: the three tables, then
 //! calls to the end. The answers are those of model and original; find and hint, which document 01 leaves free, are held to
-//! the model's nodes. The same lines hold for the calls of C on one machine.
+//! the model's nodes, and a written map file is the model's. The same lines hold for the calls of C on one machine.
 
 use crate::calls::{Answer, Call, Tables};
-use crate::cases::{bytes_of, put_binding, put_tables};
-use crate::graph::NodeAction;
-use crate::met::met_named;
+use crate::graph::{limits, NodeAction};
+use crate::mapfile::bindings_of;
+use crate::met::{expect_named, met_named};
 use crate::play::{Both, Seen};
+use crate::writing::{bytes_of, hexadecimal, put_binding, put_tables};
 
 /// What may stand in a list.
 #[derive(Clone, Debug, PartialEq)]
@@ -14,6 +15,7 @@ pub enum Item {
     Call(Call),
     Find(u16, u16),
     Hint,
+    Write(Room),
     /// A call with a number that is no kind or flag: it is answered with 1, and the play goes on.
     Unknown(Vec<u32>),
     /// What is no call. It ends the play with 9, whatever follows.
@@ -21,6 +23,31 @@ pub enum Item {
 }
 
 pub type List = Vec<Item>;
+
+/// The bytes that are lent to a writer: so many, or by the length of the file that is to be written.
+#[derive(Clone, Copy, Debug, PartialEq)]
+pub enum Room {
+    Of(usize),
+    Exact,
+    /// A byte too few.
+    Short,
+    /// A byte more than needed.
+    Long,
+}
+
+impl Room {
+    fn for_file(self, length: usize) -> usize {
+        match self {
+            Room::Of(room) => room,
+            Room::Exact => length,
+            Room::Short => length - 1,
+            Room::Long => length + 1,
+        }
+    }
+}
+
+/// The most bytes that `callplay` lends to the writer. C may lend more.
+const MOST_ROOM: usize = 65_535;
 
 /// A line of the program.
 #[derive(Clone, Debug, PartialEq)]
@@ -46,6 +73,14 @@ impl Line {
         }
     }
 
+    /// What must be and what is, in words.
+    pub fn against(&self, is: &str) -> String {
+        match self {
+            Line::Text(must) => differing(must, is),
+            other => format!("must be {other:?}, is {is:?}"),
+        }
+    }
+
     /// The line, where only one fits.
     pub fn only(&self) -> Option<String> {
         match self {
@@ -55,6 +90,17 @@ impl Line {
             _ => None,
         }
     }
+}
+
+/// A file can have hundreds of thousands of digits: of long words only those from the first difference on are shown.
+pub fn differing(must: &str, is: &str) -> String {
+    if must.len().max(is.len()) <= 2000 {
+        return format!("must be {must:?}, is {is:?}");
+    }
+    let from = must.chars().zip(is.chars()).take_while(|(a, b)| a == b).count().saturating_sub(20);
+    let shown = |words: &str| words.chars().skip(from).take(100).collect::<String>();
+    let lengths = format!("{} and {} characters", must.len(), is.len());
+    format!("{lengths}: from {from} on must be {:?}, is {:?}", shown(must), shown(is))
 }
 
 /// One input, and what must be printed.
@@ -68,9 +114,7 @@ pub struct Play {
 fn put_call(call: &Call, out: &mut Vec<u32>) {
     match call {
         Call::Open(_) => unreachable!("an input has one open, its tables"),
-        Call::Map(mode, path, step) => put_binding(0, *mode, path, Some(step), out),
-        Call::Prefix(mode, path, None) => put_binding(1, *mode, path, None, out),
-        Call::Prefix(mode, path, step) => put_binding(2, *mode, path, step.as_ref(), out),
+        Call::Map(..) | Call::Prefix(..) => put_binding(call, out),
         Call::Key { key, budget } => out.extend([3, *key as u32, *budget as u32]),
         Call::Pop => out.push(4),
         Call::Repeat(sequence, None) => out.extend([5, *sequence as u32, 0]),
@@ -86,6 +130,8 @@ pub fn bytes_of_item(item: &Item) -> Vec<u8> {
         Item::Call(call) => put_call(call, &mut numbers),
         Item::Find(mode, action) => numbers.extend([7, *mode as u32, *action as u32]),
         Item::Hint => numbers.push(8),
+        Item::Write(Room::Of(room)) => numbers.extend([9, *room as u32]),
+        Item::Write(_) => unreachable!("the file's length is known before the call is written"),
         Item::Unknown(call) => numbers.extend(call),
         Item::Malformed(bytes) => return bytes.clone(),
     }
@@ -139,11 +185,70 @@ fn hint(both: &Both) -> Line {
     Line::Free(left, both.model.mode())
 }
 
+/// The file's line. The file must be read as the model's own tables and bindings, and give the same bindings again.
+fn write(both: &Both, room: Room) -> Result<Line, String> {
+    let (file, mode) = (both.model.file(), both.model.mode());
+    let room = room.for_file(file.len());
+    let read = bindings_of(&file).is_some_and(|(tables, bindings)| both.model.is_bound_by(&tables, &bindings));
+    if !read {
+        return Err(format!("the model's file {} is not read as it was", hexadecimal(&file)));
+    }
+    note_write(file.len(), room, both.model.keeps());
+    let answer = if file.len() > room { "refused 10".into() } else { format!("file {}", hexadecimal(&file)) };
+    Ok(Line::Text(format!("{answer} mode {mode}")))
+}
+
+const WRITTEN: &str = "write: a file";
+const WRITTEN_EXACTLY: &str = "write: a file that fills the output to its last byte";
+const WRITTEN_EMPTY: &str = "write: a file without bindings";
+const WRITTEN_FULL: &str = "write: a file of 1,024 bindings";
+const WRITTEN_EDGE: &str = "write: a file of 65,536 bytes";
+const WRITTEN_FAR: &str = "write: a file of more than 65,536 bytes";
+const REFUSED: &str = "write: refused 10";
+const REFUSED_BY_ONE: &str = "write: refused 10, a byte too short";
+const REFUSED_FAR: &str = "write: refused 10, with more than 65,536 bytes lent";
+
+/// What a report shows of writing even when it is never met.
+pub fn expect_writes() {
+    let all = [
+        WRITTEN,
+        WRITTEN_EXACTLY,
+        WRITTEN_EMPTY,
+        WRITTEN_FULL,
+        WRITTEN_EDGE,
+        WRITTEN_FAR,
+        REFUSED,
+        REFUSED_BY_ONE,
+        REFUSED_FAR,
+    ];
+    all.iter().for_each(|words| expect_named(words.to_string()));
+}
+
+/// For the counts alone.
+fn note_write(length: usize, room: usize, kept: usize) {
+    let note = |test: bool, words: &str| {
+        if test {
+            met_named(words.into());
+        }
+    };
+    let fits = length <= room;
+    note(fits, WRITTEN);
+    note(length == room, WRITTEN_EXACTLY);
+    note(fits && kept == 0, WRITTEN_EMPTY);
+    note(fits && kept == limits().kept, WRITTEN_FULL);
+    note(fits && length == 65_536, WRITTEN_EDGE);
+    note(fits && length > 65_536, WRITTEN_FAR);
+    note(!fits, REFUSED);
+    note(length == room + 1, REFUSED_BY_ONE);
+    note(!fits && room > 65_536, REFUSED_FAR);
+}
+
 /// What a list comes to.
 pub struct Plays {
     /// The inputs of `callplay`, in order. An accepted open begins a new one; a refused one is an input of its own.
     pub inputs: Vec<Play>,
-    /// The items with their lines as they come on one machine, the opens among them.
+    /// The items with their lines as they come on one machine, the opens among them, and writes with more room than
+    /// `callplay` lends.
     pub calls: Vec<(Item, Line)>,
 }
 
@@ -193,14 +298,20 @@ impl Playing {
     }
 
     fn add(&mut self, item: &Item) -> Result<(), String> {
-        let line = answer(&mut self.both, item)?;
-        self.put(item, line);
+        let item = match item {
+            Item::Write(room) => Item::Write(Room::Of(room.for_file(self.both.model.file().len()))),
+            other => other.clone(),
+        };
+        let line = answer(&mut self.both, &item)?;
+        self.put(&item, line);
         Ok(())
     }
 
     fn put(&mut self, item: &Item, line: Line) {
         self.plays.calls.push((item.clone(), line.clone()));
-        self.plays.inputs.last_mut().unwrap().add(item, line);
+        if !matches!(item, Item::Write(Room::Of(room)) if *room > MOST_ROOM) {
+            self.plays.inputs.last_mut().unwrap().add(item, line);
+        }
     }
 
     fn is_refused(&self) -> bool {
@@ -237,6 +348,7 @@ fn answer(both: &mut Both, item: &Item) -> Result<Line, String> {
         Item::Call(call) => settled(&both.call(call)?),
         Item::Find(mode, action) => find(both, *mode, *action),
         Item::Hint => hint(both),
+        Item::Write(room) => write(both, *room)?,
         Item::Unknown(_) => {
             met_named("a kind or flag that there is not: refused 1".into());
             Line::Text(format!("refused 1 mode {}", both.model.mode()))

@@ -1,11 +1,12 @@
-//! Random map files with key tapes, whole and damaged. A file is first the list of its numbers, so that a damage can hit
-//! one of them: another value, a longer form, a cut, a byte too many.
+//! Random map files with key tapes, whole and damaged: one number has another value or a longer form, or there is a cut or a
+//! byte too many.
 
 use crate::bytes::put_number;
 use crate::calls::{Call, Event, ModeEntry, Part, Repeat, Step, Tables};
 use crate::gen::{Gen, Kind};
 use crate::mapfile;
 use crate::scenes;
+use crate::writing::{bytes_of, file_of, numbers_of};
 
 #[derive(Clone)]
 pub struct Case {
@@ -13,83 +14,6 @@ pub struct Case {
     pub keys: Vec<u8>,
     pub budget: u16,
     pub lent: Vec<u8>,
-}
-
-// ---- a map file as numbers
-
-fn put_list(items: &[u16], out: &mut Vec<u32>) {
-    out.push(items.len() as u32);
-    out.extend(items.iter().map(|&n| n as u32));
-}
-
-fn optional(mode: Option<u16>) -> u32 {
-    mode.map_or(0, |m| m as u32 + 1)
-}
-
-pub fn put_tables(t: &Tables, out: &mut Vec<u32>) {
-    out.push(t.classes.len() as u32);
-    for c in &t.classes {
-        out.extend([c.class, c.low, c.high].map(u32::from));
-    }
-    out.push(t.modes.len() as u32);
-    for m in &t.modes {
-        put_list(&m.enter, out);
-        put_list(&m.unmapped, out);
-        out.push(optional(m.next));
-    }
-    out.push(t.rules.len() as u32);
-    for r in &t.rules {
-        out.extend([r.mode, r.low, r.high, r.sequence, r.status].map(u32::from));
-    }
-}
-
-fn put_part(p: &Part, out: &mut Vec<u32>) {
-    match p.repeat {
-        Repeat::Once => out.push(0),
-        Repeat::Min(n) => out.extend([1, n as u32]),
-        Repeat::Max(n) => out.extend([2, n as u32]),
-    }
-    match p.event {
-        Event::Key(k) => out.extend([0, k as u32]),
-        Event::Class(c) => out.extend([1, c as u32]),
-        Event::Any => out.push(2),
-        Event::Fallthrough => out.push(3),
-    }
-}
-
-fn put_step(s: &Step, out: &mut Vec<u32>) {
-    out.push(s.flag as u32);
-    put_list(&s.actions, out);
-    out.extend([optional(s.next), optional(s.fallthrough), s.mark.unwrap_or(0) as u32]);
-}
-
-pub fn put_binding(kind: u32, mode: u16, path: &[Part], step: Option<&Step>, out: &mut Vec<u32>) {
-    out.extend([kind, mode as u32, path.len() as u32]);
-    path.iter().for_each(|p| put_part(p, out));
-    if let Some(s) = step {
-        put_step(s, out);
-    }
-}
-
-pub fn numbers_of(tables: &Tables, bindings: &[Call]) -> Vec<u32> {
-    let mut out = vec![];
-    put_tables(tables, &mut out);
-    out.push(bindings.len() as u32);
-    for binding in bindings {
-        match binding {
-            Call::Map(mode, path, s) => put_binding(0, *mode, path, Some(s), &mut out),
-            Call::Prefix(mode, path, None) => put_binding(1, *mode, path, None, &mut out),
-            Call::Prefix(mode, path, s) => put_binding(2, *mode, path, s.as_ref(), &mut out),
-            _ => unreachable!("a map file holds bindings only"),
-        }
-    }
-    out
-}
-
-pub fn bytes_of(numbers: &[u32]) -> Vec<u8> {
-    let mut out = vec![];
-    numbers.iter().for_each(|&n| put_number(n, &mut out));
-    out
 }
 
 // ---- cases
@@ -192,7 +116,8 @@ pub fn any_case_of(seed: u64) -> Case {
     let mut g = Gen::new(seed, Kind::Long);
     match g.random.below(10_000) {
         0..=3999 => case_of(seed),
-        4000..=9991 => case_of_calls(&scenes::calls_of(seed), &mut g),
+        4000..=9971 => case_of_calls(&scenes::calls_of(seed), &mut g),
+        9972..=9991 => full_of_bindings(&mut g),
         9992..=9996 => full_output(&mut g),
         9997..=9998 => full_input(&mut g, many_keys),
         _ => full_input(&mut g, many_bindings),
@@ -229,7 +154,27 @@ fn full_output(g: &mut Gen) -> Case {
     let tables = Tables { modes: vec![entry], ..Tables::default() };
     let keys = vec![97; 4095 + g.random.below(3) as usize];
     let room = g.random.pick(&[65_535, 65_536, 65_537, 70_000]);
-    Case { map: bytes_of(&numbers_of(&tables, &[])), keys, budget: 1000, lent: vec![0xAA; room] }
+    Case { map: file_of(&tables, &[]), keys, budget: 1000, lent: vec![0xAA; room] }
+}
+
+/// About as many bindings as a machine keeps, and at the end a number that is cut or out of its range, or bytes too many: what
+/// is met first, 11 after a binding's last number, or 1 or 9 before it or behind?
+fn full_of_bindings(g: &mut Gen) -> Case {
+    let mut bindings = vec![Call::Prefix(g.random.small(16), vec![], None); 1023 + g.random.below(3) as usize];
+    bindings.push(match g.random.below(4) {
+        0 => Call::Prefix(16, vec![], None),
+        1 => Call::Map(0, vec![], Step { mark: Some(1), ..g.step() }),
+        _ => g.binding(),
+    });
+    let mut map = file_of(&g.tables(), &bindings);
+    match g.random.below(5) {
+        0 => map.truncate(map.len() - 1),
+        1 => map.truncate(map.len() - 3),
+        2 => map.push(0),
+        3 => map.extend([0x80, 0]),
+        _ => {},
+    }
+    Case { map, keys: vec![97; g.random.below(3) as usize], budget: 1000, lent: vec![0xAA; 100] }
 }
 
 /// About 65,536 bytes as the input of `keyplay`, which has three for the map's length; or far more, for the archive.
@@ -239,19 +184,26 @@ fn full_input(g: &mut Gen, of: fn(usize) -> (Vec<u8>, Vec<u8>)) -> Case {
     Case { map, keys, budget: 1000, lent: vec![0xAA; 100] }
 }
 
+/// A mapping of so many keys, the same for all, with the longest step: five bytes a key, and 22 more.
+fn long_binding(parts: usize) -> Call {
+    let key = Part { repeat: Repeat::Once, event: Event::Key(20_000) };
+    let step = Step { actions: vec![20_000; 4], mark: Some(20_000), ..Step::default() };
+    Call::Map(0, vec![key; parts], step)
+}
+
 /// So many bytes, most of them keys that a prefix takes. The map is padded to a length of three bytes.
 fn many_keys(size: usize) -> (Vec<u8>, Vec<u8>) {
     let any = Call::Prefix(0, vec![Part { repeat: Repeat::Once, event: Event::Any }], None);
-    let empty = Call::Prefix(0, vec![], None);
-    let map = bytes_of(&numbers_of(&Tables::default(), &[vec![any], vec![empty; 5462]].concat()));
+    let map = file_of(&Tables::default(), &[vec![any], vec![long_binding(0); 1000]].concat());
     let keys = vec![97; size - map.len()];
     (map, keys)
 }
 
-/// So many bytes, most of them bindings of an empty path, with a few keys.
+/// So many bytes, most of them those of about a thousand bindings, with a few keys.
 fn many_bindings(size: usize) -> (Vec<u8>, Vec<u8>) {
-    let count = (size - 10) / 3;
-    let map = bytes_of(&numbers_of(&Tables::default(), &vec![Call::Prefix(0, vec![], None); count]));
+    let parts = (size / 1000 - 22).div_ceil(5);
+    let count = (size - 10) / (22 + 5 * parts);
+    let map = file_of(&Tables::default(), &vec![long_binding(parts); count]);
     let keys = vec![97; size - map.len()];
     (map, keys)
 }

@@ -5,7 +5,7 @@ use std::panic::{catch_unwind, AssertUnwindSafe};
 use std::path::Path;
 use std::time::{Duration, Instant};
 
-use crate::calllist::{plays, Line, List, Play};
+use crate::calllist::{self, plays, Line, List, Play};
 use crate::cases::{any_case_of, input_of_case, Case};
 use crate::lent;
 use crate::mapfile;
@@ -35,8 +35,7 @@ impl Contest {
 
     /// Lists and cases from a seed on, for some seconds. Whether no difference was met.
     pub fn run(&self, seconds: u64, first: u64) -> bool {
-        expect_answers();
-        expect_runs();
+        expect_met();
         lent::expect_calls();
         let end = Instant::now() + Duration::from_secs(seconds);
         let mut seed = first;
@@ -76,7 +75,7 @@ impl Contest {
 
     fn case_agrees(&self, seed: u64, case_seed: u64) -> bool {
         let case = any_case_of(case_seed);
-        note_run(&case);
+        note_run(&case, ours::run(&case).0);
         if case_difference(&case).is_none() {
             return true;
         }
@@ -131,13 +130,11 @@ impl Contest {
         if at == lines.len() && at == printed.len() {
             return None;
         }
-        Some(format!(
-            "stdin of callplay: {:02X?}\nline {}: must be {:?}, is {:?}",
-            play.input,
-            at + 1,
-            lines.get(at),
-            printed.get(at)
-        ))
+        let words = match (lines.get(at), printed.get(at)) {
+            (Some(line), Some(is)) => line.against(is),
+            (line, is) => format!("must be {line:?}, is {is:?}"),
+        };
+        Some(format!("stdin of callplay: {:02X?}\nline {}: {words}", play.input, at + 1))
     }
 
     fn input_difference(&self, input: &[u8]) -> Option<String> {
@@ -174,15 +171,17 @@ fn guarded<T>(work: impl FnOnce() -> Result<T, String>) -> Result<T, String> {
 
 // ---- counts
 
-fn expect_runs() {
+/// What a report shows even when it is never met.
+pub fn expect_met() {
+    expect_answers();
+    calllist::expect_writes();
     met::expect_named("run: accepted".into());
-    (1..=10).for_each(|n| met::expect_named(format!("run: refused {n:2}")));
+    (1..=11).for_each(|n| met::expect_named(format!("run: refused {n:2}")));
     met::expect_named("run: the output is full to its last byte".into());
 }
 
-/// What our side came to, which a difference would show to be wrong.
-fn note_run(case: &Case) {
-    let (code, _) = ours::run(case);
+/// What a run came to. Of our side, which a difference would show to be wrong, or of the model.
+pub fn note_run(case: &Case, code: u64) {
     let (length, refusal) = ((code / 32) as usize, code % 32);
     if refusal != 0 {
         met::met_named(format!("run: refused {refusal:2}"));

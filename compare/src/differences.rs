@@ -209,6 +209,18 @@ fn full_lists() -> Vec<Input> {
     ]
 }
 
+/// Binding calls that are kept: 1,024 of no part, and one more.
+fn kept_calls() -> Vec<Input> {
+    let idle = vec![Call::Prefix(0, vec![], None); 1024];
+    vec![input(
+        16,
+        "1,024 prefixes of no part, mapping a with action 1, key a",
+        &[idle, vec![map_a(does(1)), press('a')]],
+        "done ×1026; pops 1",
+        "ok ×1024, refused 11, ok; pops 0",
+    )]
+}
+
 /// Values and counts one over their ranges. The tables, the mark and the step's actions are the instance's: there the
 /// original is seen to take what it gives.
 fn ranges() -> Vec<Input> {
@@ -306,8 +318,10 @@ fn shortened(words: Vec<String>) -> String {
 
 /// Prints each input with what both sides make of it. Whether all is as it must be.
 pub fn differences() -> bool {
-    let mut inputs =
-        [behaviour(), panics(), full_graphs(), full_lists(), ranges()].into_iter().flatten().collect::<Vec<_>>();
+    let mut inputs = [behaviour(), panics(), full_graphs(), full_lists(), ranges(), kept_calls()]
+        .into_iter()
+        .flatten()
+        .collect::<Vec<_>>();
     inputs.sort_by_key(|i| i.entry);
     let mut right = true;
     for Input { entry, words, calls, original, model } in inputs {

@@ -1,4 +1,5 @@
-//! Document 01's E1 to E10 as lists of calls with the answers it names: they hold model and original to the paper itself.
+//! Document 01's E1 to E10 as lists of calls with the answers it names: they hold model and original to the paper itself. The
+//! paper has E1's map as bytes too, which its machine must write.
 
 use crate::calls::{Answer, Call, ClassEntry, Context, Event, Pair, Part, Repeat, Rule, Step, Tables};
 use crate::play::Both;
@@ -8,7 +9,14 @@ type Tried = (Call, Answer);
 pub struct Edge {
     pub name: &'static str,
     tries: Vec<Tried>,
+    /// The map that the paper has as bytes.
+    file: Option<&'static [u8]>,
 }
+
+const MAP_OF_E1: [u8; 25] = [
+    0x01, 0x00, 0x30, 0x39, 0x00, 0x00, 0x02, 0x01, 0x00, 0x01, 0x00, 0x01, 0x00, 0x00, 0x00, 0x01, 0x00, 0x00, 0x72,
+    0x00, 0x01, 0x07, 0x00, 0x00, 0x00,
+];
 
 impl Edge {
     /// How what is given differs from what the paper names.
@@ -19,6 +27,10 @@ impl Edge {
             if given != *answer {
                 return Err(format!("{}: {call:?} gives {given}, not {answer}", self.name));
             }
+        }
+        let file = both.model.file();
+        if self.file.is_some_and(|f| f != file) {
+            return Err(format!("{}: writes {file:02X?}, which is not the paper's map", self.name));
         }
         Ok(())
     }
@@ -78,11 +90,11 @@ pub fn edges() -> Vec<Edge> {
     let falls = Step { fallthrough: Some(1), ..does(1) };
     let behind = vec![once(Event::Key(97)), once(Event::Fallthrough)];
     let (a, q, r, z) = (b'a', b'q', b'r' as u16, b'z' as u16);
-    let edge = |name, tries| Edge { name, tries };
+    let edge = |name, tries| Edge { name, tries, file: None };
     vec![
-        edge(
-            "E1",
-            vec![
+        Edge {
+            name: "E1",
+            tries: vec![
                 open(digits, vec![]),
                 prefix(vec![once(Event::Class(0))]),
                 map(keys(b"r"), does(7)),
@@ -97,7 +109,8 @@ pub fn edges() -> Vec<Edge> {
                 gives(0, 0),
                 nothing(),
             ],
-        ),
+            file: Some(&MAP_OF_E1),
+        },
         edge(
             "E2",
             doubles(vec![

@@ -5,19 +5,28 @@
 use std::collections::HashMap;
 use std::sync::OnceLock;
 
-use crate::calls::{Event, Part, Repeat, Step, Tables};
+use crate::calls::{Call, Event, Part, Repeat, Step, Tables};
 use crate::met::{met, met_if, met_part, Met, Place};
 
 const ROOTS: usize = 16;
 
-/// The most nodes beside the roots, and the most edges. COMPARE_LIMITS (as "24 40") makes them small, so that short lists
-/// meet them in every place; `check-rows` then gives its copy of the rules the same limits.
-fn limits() -> (usize, usize) {
-    static LIMITS: OnceLock<(usize, usize)> = OnceLock::new();
+/// The most nodes beside the roots, the most edges, and the most binding calls that a machine keeps.
+#[derive(Clone, Copy)]
+pub struct Limits {
+    pub nodes: usize,
+    pub edges: usize,
+    pub kept: usize,
+}
+
+/// COMPARE_LIMITS (as "24 40" or "24 40 6") makes them small, so that short lists meet them in every place; `check-rows` then
+/// gives its copy of the rules the same limits.
+pub fn limits() -> Limits {
+    static LIMITS: OnceLock<Limits> = OnceLock::new();
     *LIMITS.get_or_init(|| {
-        let Ok(words) = std::env::var("COMPARE_LIMITS") else { return (1024, 2048) };
-        let numbers: Vec<usize> = words.split(' ').map(|w| w.parse().expect("COMPARE_LIMITS: two numbers")).collect();
-        (numbers[0], numbers[1])
+        let Ok(words) = std::env::var("COMPARE_LIMITS") else { return Limits { nodes: 1024, edges: 2048, kept: 1024 } };
+        let number = |w: &str| w.parse().expect("COMPARE_LIMITS: two numbers or three");
+        let numbers: Vec<usize> = words.split(' ').map(number).collect();
+        Limits { nodes: numbers[0], edges: numbers[1], kept: numbers.get(2).copied().unwrap_or(1024) }
     })
 }
 
@@ -26,7 +35,7 @@ pub type Outcome<T> = Result<T, u16>;
 
 pub type NodeId = usize;
 
-#[derive(Clone)]
+#[derive(Clone, PartialEq)]
 pub enum NodeAction {
     Empty,
     Root,
@@ -39,7 +48,7 @@ impl From<Option<&Step>> for NodeAction {
     }
 }
 
-#[derive(Clone)]
+#[derive(Clone, PartialEq)]
 pub struct Node {
     pub mode: u16,
     pub action: NodeAction,
@@ -90,7 +99,7 @@ impl Graph {
 
     fn add_node(&mut self, mode: u16, action: NodeAction) -> Outcome<NodeId> {
         let id = self.nodes.len();
-        if id == ROOTS + limits().0 {
+        if id == ROOTS + limits().nodes {
             return Err(2);
         }
         self.nodes.insert(id, Node { mode, action });
@@ -112,7 +121,7 @@ impl Graph {
     fn add_edge(&mut self, from: NodeId, to: NodeId, ev: Event) -> Outcome<()> {
         let old = self.get_edge(from, ev);
         if old.is_none() {
-            if self.edge_count == limits().1 {
+            if self.edge_count == limits().edges {
                 return Err(3);
             }
             self.edge_count += 1;
@@ -294,7 +303,7 @@ impl Graph {
         Adding { graph: self, mode, prev: mode as NodeId, fallthrough: false }
     }
 
-    pub fn add_prefix(&mut self, mode: u16, path: &[Part], step: Option<&Step>) -> Outcome<()> {
+    fn add_prefix(&mut self, mode: u16, path: &[Part], step: Option<&Step>) -> Outcome<()> {
         let Some((last, prefix)) = path.split_last() else { return Ok(()) };
         let mut adding = self.adding(mode);
         for part in prefix {
@@ -305,7 +314,7 @@ impl Graph {
         Ok(())
     }
 
-    pub fn add_mapping(&mut self, mode: u16, path: &[Part], step: &Step) -> Outcome<()> {
+    fn add_mapping(&mut self, mode: u16, path: &[Part], step: &Step) -> Outcome<()> {
         let Some((last, prefix)) = path.split_last() else { return Ok(()) };
         let mut adding = self.adding(mode);
         for part in prefix {
@@ -319,10 +328,19 @@ impl Graph {
         Ok(())
     }
 
+    /// A map or prefix call whose values are in their ranges.
+    pub fn bind(&mut self, binding: &Call) -> Outcome<()> {
+        match binding {
+            Call::Map(mode, path, step) => self.add_mapping(*mode, path, step),
+            Call::Prefix(mode, path, step) => self.add_prefix(*mode, path, step.as_ref()),
+            _ => unreachable!("no other call binds"),
+        }
+    }
+
     /// For the counts alone.
     fn note_full(&self) {
         let (nodes, edges) = self.size();
-        met_if(nodes == limits().0, Met::NodesFull);
-        met_if(edges == limits().1, Met::EdgesFull);
+        met_if(nodes == limits().nodes, Met::NodesFull);
+        met_if(edges == limits().edges, Met::EdgesFull);
     }
 }

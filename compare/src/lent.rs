@@ -1,17 +1,19 @@
 //! A list of calls on one lent machine of the archive, by its C functions. Each answer is written as the line that `callplay`
 //! prints for it, so that library and program are held to the same lines. A refused call, and one that only looks, must leave
-//! every byte of the machine as it was: that is more than the contracts say, which speak of what the bytes mean.
+//! every byte of the machine as it was: that is more than the contracts say, which speak of what the bytes mean. A written file
+//! must open another machine, and that one must write the same file.
 //!
 //! C gets the tables as a map without bindings, and a binding as its bytes. Every value that a list can hold can be said so:
 //! one that is out of its range is refused with 1 when it is read, and a count that is too large before what it counts.
 
 use crate::bytes::put_number;
-use crate::calllist::{bytes_of_item, Item, Line};
+use crate::calllist::{bytes_of_item, differing, Item, Line, Room};
 use crate::calls::{Call, Tables};
-use crate::cases::{bytes_of, numbers_of};
+use crate::graph::limits;
 use crate::machine::Machine;
-use crate::mapfile::{binding_refusal, tables_refusal};
+use crate::mapfile::{binding_refusal, bindings_of, tables_refusal};
 use crate::met::{expect_named, met_named};
+use crate::writing::{file_of, hexadecimal};
 
 /// A count over it is refused.
 const LARGEST: u32 = 65_535;
@@ -20,9 +22,11 @@ const CALLS: &str = "C: calls of lists";
 const KEPT: &str = "C: refused or looking, and no byte of the machine changed";
 const DAMAGED: &str = "C: a byte too few or too many, refused";
 const LARGE: &str = "C: repeat_over with a count over 65,535, refused";
+const AGAIN: &str = "C: a written file opens a machine that writes it again";
+const ONE_MORE: &str = "C: a file of 1,024 bindings and one more, refused 11";
 
 pub fn expect_calls() {
-    [CALLS, KEPT, DAMAGED, LARGE].iter().for_each(|words| expect_named(words.to_string()));
+    [CALLS, KEPT, DAMAGED, LARGE, AGAIN, ONE_MORE].iter().for_each(|words| expect_named(words.to_string()));
 }
 
 /// How the machine differs from the lines, if it does.
@@ -38,9 +42,12 @@ fn play(calls: &[(Item, Line)]) -> Result<(), String> {
         refuse_beside(&mut machine, item)?;
         let is = answered(&mut machine, item)?;
         if !line.fits(&is) {
-            return Err(format!("the lent machine at {item:?}: must be {line:?}, is {is:?}"));
+            return Err(format!("the lent machine at {item:?}: {}", line.against(&is)));
         }
         met_named(CALLS.into());
+        if let Item::Write(Room::Of(room)) = item {
+            read_back(&mut machine, *room)?;
+        }
     }
     Ok(())
 }
@@ -51,7 +58,7 @@ fn has_function(item: &Item) -> bool {
 }
 
 fn map_of(tables: &Tables) -> Vec<u8> {
-    bytes_of(&numbers_of(tables, &[]))
+    file_of(tables, &[])
 }
 
 // ---- what C returns, as words
@@ -112,6 +119,55 @@ fn free(code: u64) -> Told {
     }
 }
 
+// ---- files
+
+/// What every byte of an output and of some behind it holds before it is lent.
+const LENT: u8 = 0xAA;
+const BEHIND: usize = 16;
+
+/// The file that a machine writes to so many bytes, or the words for what comes of it instead.
+fn written(machine: &mut Machine, room: usize) -> Result<Vec<u8>, String> {
+    let mut output = vec![LENT; room + BEHIND];
+    let code = machine.write(&mut output[..room]);
+    let (length, refusal) = ((code / 32) as usize, code % 32);
+    let (used, least) = if refusal == 0 { (length, length) } else { (room, 0) };
+    if used > room || length != least {
+        return Err(no_answer(code).words);
+    }
+    let stays = output[used..].iter().all(|&b| b == LENT);
+    output.truncate(used);
+    match refusal {
+        _ if !stays => Err(format!("the number {code}, with bytes written behind the output's end or the file's")),
+        0 => Ok(output),
+        _ if output.iter().any(|&b| b != 0) => Err(format!("refused {refusal}, with an output that is not all zeros")),
+        _ => Err(format!("refused {refusal}")),
+    }
+}
+
+fn filed(machine: &mut Machine, room: usize) -> Told {
+    let words = written(machine, room).map_or_else(|words| words, |file| format!("file {}", hexadecimal(&file)));
+    told(words, true)
+}
+
+/// Where a file fits, another machine is opened with it and must write it again; and with one binding more than a machine
+/// keeps, it must be refused.
+fn read_back(machine: &mut Machine, room: usize) -> Result<(), String> {
+    let Ok(file) = written(machine, room) else { return Ok(()) };
+    let mut other = Machine::lent();
+    let again = format!("file {}", hexadecimal(&file));
+    holds(&mut other, "the open of a written file", "ok", |m| settled(m.open(&file)))?;
+    holds(&mut other, "the write of an opened file", &again, |m| filed(m, file.len()))?;
+    met_named(AGAIN.into());
+    let (tables, mut bindings) = bindings_of(&file).expect("the file is the model's, which can be read");
+    if bindings.len() < limits().kept {
+        return Ok(());
+    }
+    bindings.push(Call::Prefix(0, vec![], None));
+    met_named(ONE_MORE.into());
+    let longer = file_of(&tables, &bindings);
+    holds(machine, "the open of a file of too many bindings", "refused 11", |m| settled(m.open(&longer)))
+}
+
 // ---- calls
 
 fn called(machine: &mut Machine, item: &Item) -> Told {
@@ -124,6 +180,8 @@ fn called(machine: &mut Machine, item: &Item) -> Told {
         Item::Call(Call::Reset) => settled(machine.reset()),
         Item::Find(mode, action) => found(machine.find(*mode, *action)),
         Item::Hint => free(machine.free()),
+        Item::Write(Room::Of(room)) => filed(machine, *room),
+        Item::Write(_) => unreachable!("a list that was played has each room as a number"),
         // a binding that is whole, has an odd kind or flag, or ends early
         Item::Call(Call::Map(..) | Call::Prefix(..)) | Item::Unknown(_) | Item::Malformed(_) => {
             settled(machine.bind(&bytes_of_item(item)))
@@ -143,9 +201,10 @@ fn answered(machine: &mut Machine, item: &Item) -> Result<String, String> {
 
 /// Makes a call, and tells a byte that it should not have written.
 fn watched(machine: &mut Machine, name: &str, call: impl Fn(&mut Machine) -> Told) -> Result<String, String> {
-    let before = machine.moved();
+    machine.move_elsewhere();
     let Told { words, keeps } = call(machine);
-    if keeps && !machine.is_as(&before) {
+    if keeps && !machine.is_as_before() {
+        let words: String = words.chars().take(100).collect();
         return Err(format!("the lent machine at {name}: {words:?} must leave every byte as it was, and does not"));
     }
     if !machine.kept_within() {
@@ -163,7 +222,7 @@ fn holds(machine: &mut Machine, name: &str, must: &str, call: impl Fn(&mut Machi
     if is == must {
         return Ok(());
     }
-    Err(format!("the lent machine at {name}: must be {must:?}, is {is:?}"))
+    Err(format!("the lent machine at {name}: {}", differing(must, &is)))
 }
 
 // ---- calls that only C can make: refused, before the item's own call

@@ -22,6 +22,7 @@ functions! {
     fn keymap_mode(machine: *const u64) -> u64;
     fn keymap_find(machine: *const u64, mode: u16, action: u16) -> u64;
     fn keymap_free(machine: *const u64) -> u64;
+    fn keymap_write(machine: *const u64, output: *mut u8, output_count: usize) -> u64;
 }
 
 const HEADER: &str = include_str!("../../include/keymap.h");
@@ -32,6 +33,8 @@ const BEHIND: usize = 8;
 
 pub struct Machine {
     words: Vec<u64>,
+    /// The words as they were where the machine last lay.
+    before: Vec<u64>,
 }
 
 impl Machine {
@@ -42,17 +45,19 @@ impl Machine {
         if size != unsafe { keymap_size() } {
             crate::stop("keymap.h and the archive are of different versions: they differ in the size of a machine");
         }
-        Machine { words: vec![FIRST; size / 8 + BEHIND] }
+        let words = vec![FIRST; size / 8 + BEHIND];
+        Machine { before: words.clone(), words }
     }
 
-    /// Puts the machine to another place, as C may between calls, and gives the bytes that it had.
-    pub fn moved(&mut self) -> Machine {
-        let elsewhere = self.words.clone();
-        Machine { words: std::mem::replace(&mut self.words, elsewhere) }
+    /// Puts the machine to another place, as C may between calls.
+    pub fn move_elsewhere(&mut self) {
+        self.before.copy_from_slice(&self.words);
+        std::mem::swap(&mut self.words, &mut self.before);
     }
 
-    pub fn is_as(&self, other: &Machine) -> bool {
-        self.words == other.words
+    /// Whether it is as it was when it was last moved.
+    pub fn is_as_before(&self) -> bool {
+        self.words == self.before
     }
 
     pub fn kept_within(&self) -> bool {
@@ -60,8 +65,8 @@ impl Machine {
     }
 }
 
-// ---- the calls: each is given the machine's whole bytes, and slices that C only reads. A call that looks gets a pointer that
-// may be written too, so that a write by it would be seen.
+// ---- the calls: each is given the machine's whole bytes, and slices that C only reads, but for the output. A call that looks
+// gets a pointer that may be written too, so that a write by it would be seen.
 
 impl Machine {
     pub fn open(&mut self, map: &[u8]) -> u64 {
@@ -102,5 +107,9 @@ impl Machine {
 
     pub fn free(&mut self) -> u64 {
         unsafe { keymap_free(self.words.as_mut_ptr()) }
+    }
+
+    pub fn write(&mut self, output: &mut [u8]) -> u64 {
+        unsafe { keymap_write(self.words.as_mut_ptr(), output.as_mut_ptr(), output.len()) }
     }
 }

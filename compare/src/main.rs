@@ -25,6 +25,7 @@ mod record;
 mod scenes;
 mod shrink;
 mod status;
+mod writing;
 
 use std::io::Read;
 use std::path::Path;
@@ -45,8 +46,9 @@ compare keyplay                      what `keyplay` prints for standard input
 compare run FOLDER SECONDS FIRST     random lists and runs from seed FIRST on, against the programs in FOLDER and the archive
 compare seed FOLDER SEED             one of these again
 compare record calls|runs FOLDER     the recorded lists or runs: writes stdin and stdout there
-KIND is usual, plain, long or big. SORT is a kind; or runs, or keyplay; for rows also reader, which is plain lists on the
-list reader, and graphs, which is nodes and edges after the bindings of usual lists";
+KIND is usual, plain, long or big. SORT is a kind; or runs, or keyplay; for many also lists, which is what `compare run` plays;
+for rows also reader, which is plain lists on the list reader, and graphs and files, which are nodes and edges, and the map
+file, after the bindings of usual lists";
 
 fn main() {
     let words: Vec<String> = std::env::args().skip(1).collect();
@@ -141,6 +143,7 @@ fn many(sort: &str, first: u64, count: u64) {
     match sort {
         "runs" => many_runs(seeds),
         "keyplay" => many_plays(seeds),
+        "lists" => many_contests(seeds),
         kind => many_lists(kind_of(kind), seeds),
     }
     println!("{count} of {sort}, seeds {first} to {}: model and original agree", first + count - 1);
@@ -175,6 +178,18 @@ fn many_plays(seeds: std::ops::Range<u64>) {
     met::print();
 }
 
+/// What `compare run` plays, on model and original alone.
+fn many_contests(seeds: std::ops::Range<u64>) {
+    contest::expect_met();
+    for seed in seeds {
+        agreed(seed, calllist::plays(&scenes::list_of(seed)));
+        let case = cases::any_case_of(seed);
+        let (code, _) = agreed(seed, mapfile::exported(&case.map, &case.keys, case.budget, &case.lent));
+        contest::note_run(&case, code as u64);
+    }
+    met::print();
+}
+
 fn ran(seed: u64) -> (cases::Case, u32, Vec<u8>) {
     let case = cases::case_of(seed);
     let (code, output) = agreed(seed, mapfile::exported(&case.map, &case.keys, case.budget, &case.lent));
@@ -194,8 +209,16 @@ fn rows(sort: &str, first: u64, count: u64, name: &str) {
             antt::play_row(row_name(seed), &input, &agreed(seed, mapfile::keyplay(&input)))
         }),
         "graphs" => (Sort { of: "Built", outcome: "buildOutcome" }, |seed, _| {
-            let (calls, graph) = agreed(seed, play::build(&gen::list_of(seed, Kind::Usual)));
-            antt::graph_row(row_name(seed), &calls, &graph)
+            let (calls, model) = agreed(seed, play::build(&gen::list_of(seed, Kind::Usual)));
+            antt::graph_row(row_name(seed), &calls, model.graph())
+        }),
+        "files" => (Sort { of: "Filed", outcome: "fileOutcome" }, |seed, _| {
+            let (calls, model) = agreed(seed, play::build(&gen::list_of(seed, Kind::Usual)));
+            let file = model.file();
+            // a byte too few, just enough, and some more
+            let lent = vec![0xAA; file.len() - 1 + seed as usize % 4];
+            let (code, output) = writing::written(&file, &lent);
+            antt::file_row(row_name(seed), &calls, &lent, code, &output)
         }),
         "reader" => (Sort { of: "List Tried", outcome: "outcome listKind" }, list_row),
         _ => (Sort { of: "List Tried", outcome: "outcome graphKind" }, list_row),

@@ -66,6 +66,7 @@ places! {
     FallBehindMin: "graph: a Fallthrough edge behind a Min on the way",
     NodesFull: "full: a call ends with 1,024 nodes",
     EdgesFull: "full: a call ends with 2,048 edges",
+    KeptFull: "full: a call is kept as the 1,024th",
     QueueFull: "full: a push makes 256 pairs",
     QueueFullRepeat: "full: a repeat makes 256 pairs",
     TrackedFull: "full: a Track makes 64 pairs",

@@ -3,10 +3,12 @@
 //! the one that document 01 names. `play.rs` holds every accepted call of it to the original itself.
 
 use std::collections::{HashMap, VecDeque};
+use std::rc::Rc;
 
 use crate::calls::{binding_valid, decompose, tables_valid, Answer, Call, Context, Event, Pair, Step, Tables};
-use crate::graph::{Follow, Graph, NodeAction, NodeId, Outcome};
+use crate::graph::{limits, Follow, Graph, NodeAction, NodeId, Outcome};
 use crate::met::{met, met_if, met_which, stacked, Met};
+use crate::writing::file_of;
 
 const MOST_QUEUED: usize = 256;
 const MOST_TRACKED: usize = 64;
@@ -80,6 +82,8 @@ impl Rounds {
 pub struct Model {
     tables: Tables,
     graph: Graph,
+    /// The accepted binding calls in order, those with an empty path too.
+    kept: Vec<Rc<Call>>,
     curr: NodeId,
     mode: u16,
     context: Context,
@@ -93,6 +97,7 @@ impl Model {
         Model {
             tables,
             graph: Graph::fresh(),
+            kept: vec![],
             curr: 0,
             mode: 0,
             context: Context::default(),
@@ -126,6 +131,25 @@ impl Model {
 
     pub fn graph(&self) -> &Graph {
         &self.graph
+    }
+
+    // ---- the map file
+
+    /// Tables and kept calls, as a map file.
+    pub fn file(&self) -> Vec<u8> {
+        file_of(&self.tables, self.kept.iter().map(Rc::as_ref))
+    }
+
+    pub fn keeps(&self) -> usize {
+        self.kept.len()
+    }
+
+    /// Whether a fresh machine with these tables and bindings equals this one in its tables, bindings and kept calls.
+    pub fn is_bound_by(&self, tables: &Tables, bindings: &[Call]) -> bool {
+        let mut graph = Graph::fresh();
+        let bound = bindings.iter().all(|b| graph.bind(b).is_ok());
+        let same = graph.nodes() == self.graph.nodes() && graph.edges() == self.graph.edges();
+        bound && same && *tables == self.tables && self.kept.iter().map(Rc::as_ref).eq(bindings)
     }
 
     // ---- pushing
@@ -378,13 +402,24 @@ impl Model {
                 Ok(())
             },
             Call::Map(mode, path, step) if !binding_valid(*mode, path, Some(step)) => Err(1),
-            Call::Map(mode, path, step) => self.graph.add_mapping(*mode, path, step),
             Call::Prefix(mode, path, step) if !binding_valid(*mode, path, step.as_ref()) => Err(1),
-            Call::Prefix(mode, path, step) => self.graph.add_prefix(*mode, path, step.as_ref()),
+            Call::Map(..) | Call::Prefix(..) => {
+                self.graph.bind(call)?;
+                self.keep(call)
+            },
             Call::Repeat(sequence, over) => self.repeat(*sequence, *over),
             Call::Reset => self.reset_mode(),
             Call::Key { .. } | Call::Pop => unreachable!("these have answers of their own"),
         }
+    }
+
+    fn keep(&mut self, call: &Call) -> Outcome<()> {
+        if self.kept.len() == limits().kept {
+            return Err(11);
+        }
+        self.kept.push(Rc::new(call.clone()));
+        met_if(self.kept.len() == limits().kept, Met::KeptFull);
+        Ok(())
     }
 
     fn tried(&mut self, work: impl FnOnce(&mut Model) -> Outcome<()>) -> Outcome<()> {

@@ -2,7 +2,7 @@
 //! goes to the original too, and both must then show the same and have made the same rounds.
 
 use crate::calls::{Answer, Call, Context, Pair};
-use crate::graph::Graph;
+use crate::graph::limits;
 use crate::met::{expect_named, met_named};
 use crate::model::Model;
 use crate::oracle::Oracle;
@@ -29,8 +29,12 @@ impl Both {
 
     /// The answer and what is seen, or how model and original differ.
     pub fn call(&mut self, call: &Call) -> Result<Seen, String> {
+        let full = self.model.keeps() == limits().kept;
         let answer = self.model.call(call);
         met_named(format!("{}: {}", name_of(call), answer_kind(answer)));
+        if full && matches!(call, Call::Map(..) | Call::Prefix(..)) {
+            met_named(format!("{KEPT_FULL}: {}", answer_kind(answer)));
+        }
         self.follow(call, answer)?;
         let (mode, context) = (self.model.mode(), self.model.context());
         if (mode, context) != (self.original.mode(), self.original.context()) {
@@ -43,7 +47,7 @@ impl Both {
         Ok(Seen { answer, mode, context, queued: self.model.queue().len(), trail: self.model.trail().to_vec() })
     }
 
-    /// Holds the original to the model's answer. A refusal of document 01's own leaves the original as it is.
+    /// Holds the original to the model's answer. A refusal of the documents' own leaves the original as it is.
     fn follow(&mut self, call: &Call, answer: Answer) -> Result<(), String> {
         match (call, answer) {
             (_, Answer::Refused(4)) if !self.original.panics_at(call) => Err(format!("no panic at {call:?}")),
@@ -110,15 +114,16 @@ pub fn play(list: &[Call]) -> Result<Played, String> {
     Ok(played)
 }
 
-/// The open and binding calls of a list, and the graph that they leave. Only the model's nodes and edges can be seen.
-pub fn build(list: &[Call]) -> Result<(Vec<Call>, Graph), String> {
+/// The open and binding calls of a list, and the model that they leave: the original's nodes and edges cannot be seen, and it
+/// has no map file.
+pub fn build(list: &[Call]) -> Result<(Vec<Call>, Model), String> {
     let is_binding = |c: &&Call| matches!(c, Call::Open(_) | Call::Map(..) | Call::Prefix(..));
     let calls: Vec<Call> = list.iter().filter(is_binding).cloned().collect();
     let mut both = Both::fresh();
     for call in &calls {
         both.call(call)?;
     }
-    Ok((calls, both.model.graph().clone()))
+    Ok((calls, both.model))
 }
 
 impl Played {
@@ -136,12 +141,15 @@ impl Played {
     }
 }
 
+/// Where 11 is due, whatever is refused by an older number must be so still.
+const KEPT_FULL: &str = "a binding where 1,024 calls are kept";
+
 /// The answers that a report shows even when they are never met.
 pub fn expect_answers() {
     let refusals: [(&str, &[u16]); 6] = [
         ("open", &[1]),
-        ("map", &[1, 2, 3, 4]),
-        ("prefix", &[1, 2, 3]),
+        ("map", &[1, 2, 3, 4, 11]),
+        ("prefix", &[1, 2, 3, 11]),
         ("key", &[5, 6, 7, 8]),
         ("repeat", &[1, 5]),
         ("reset", &[5, 6]),
@@ -150,6 +158,7 @@ pub fn expect_answers() {
         expect_named(format!("{call}: accepted"));
         numbers.iter().for_each(|n| expect_named(format!("{call}: refused {n}")));
     }
+    [1, 2, 3, 4, 11].iter().for_each(|n| expect_named(format!("{KEPT_FULL}: refused {n}")));
 }
 
 fn name_of(call: &Call) -> &'static str {

@@ -1,14 +1,16 @@
-//! Lists of calls that lead to one edge of document 01 each: repeats with overrides, half-typed runs, flags, falls across
-//! modes, repeats of parts at their ends, and each limit reached exactly and passed by one.
+//! Lists of calls that lead to one edge of the documents each: repeats with overrides, half-typed runs, flags, falls across
+//! modes, repeats of parts at their ends, numbers of every length in a map file, and each limit reached exactly and passed by
+//! one.
 
-use crate::calllist::{Item, List};
+use crate::calllist::{Item, List, Room};
 use crate::calls::{Call, ClassEntry, Context, Event, ModeEntry, Part, Repeat, Rule, Step, Tables};
 use crate::gen::{Gen, Kind};
 use crate::graph::Graph;
+use crate::writing::file_of;
 
 type Scene = fn(&mut Gen) -> Vec<Call>;
 
-const SCENES: [Scene; 14] = [
+const SCENES: [Scene; 15] = [
     overrides,
     half_typed,
     flagged,
@@ -23,15 +25,22 @@ const SCENES: [Scene; 14] = [
     full_tables,
     full_nodes,
     full_edges,
+    numbers_at_edges,
 ];
+
+/// These have hundreds of calls or more, so they come seldom.
+const LONG_SCENES: [Scene; 5] = [kept_calls, kept_with_full_graph, kept_and_opened, longest_file, file_of_65_536];
 
 /// The calls of a seed: a scene, or a list of some kind.
 pub fn calls_of(seed: u64) -> Vec<Call> {
     let mut g = Gen::new(seed, Kind::Usual);
     let (which, scene) = (g.random.below(100), g.random.below(SCENES.len() as u64));
+    if which <= 1 {
+        return g.random.pick(&LONG_SCENES)(&mut g);
+    }
     let mut other = |kind| Gen::new(g.random.next(), kind).list();
     match which {
-        0..=44 => SCENES[scene as usize](&mut g),
+        2..=44 => SCENES[scene as usize](&mut g),
         45..=74 => other(Kind::Usual),
         75..=84 => other(Kind::Plain),
         85..=94 => other(Kind::Long),
@@ -39,16 +48,24 @@ pub fn calls_of(seed: u64) -> Vec<Call> {
     }
 }
 
-/// The list of a seed for `callplay`: its calls, now and then with find, hint, odd kinds and what is no call.
+/// The list of a seed for `callplay`: its calls, now and then with find, hint, write, odd kinds and what is no call.
 pub fn list_of(seed: u64) -> List {
     let mut g = Gen::new(seed, Kind::Plain);
-    let often = g.random.pick(&[0, 3, 10]);
+    let calls = calls_of(seed);
+    let is_long = calls.len() > 200;
+    let often = if is_long { g.random.pick(&[0, 0, 1]) } else { g.random.pick(&[0, 3, 10]) };
     let mut list = vec![];
-    for call in calls_of(seed) {
+    for call in calls {
         if g.random.chance(often) {
             list.push(beside(&mut g));
         }
         list.push(Item::Call(writable(call)));
+    }
+    if is_long {
+        list.extend([Room::Short, Room::Exact].map(Item::Write));
+    }
+    if g.random.chance(40) {
+        list.extend((0..1 + g.random.below(3)).map(|_| Item::Write(room(&mut g))));
     }
     if g.random.chance(4) {
         let at = g.random.below(list.len() as u64 + 1) as usize;
@@ -59,9 +76,23 @@ pub fn list_of(seed: u64) -> List {
 
 fn beside(g: &mut Gen) -> Item {
     match g.random.below(10) {
-        0..=4 => Item::Find(g.random.pick(&[0, 0, 1, 2, 15, 16, 65_535]), g.random.pick(&[0, 1, 2, 3, 4, 5, 65_535])),
-        5..=7 => Item::Hint,
+        0..=3 => Item::Find(g.random.pick(&[0, 0, 1, 2, 15, 16, 65_535]), g.random.pick(&[0, 1, 2, 3, 4, 5, 65_535])),
+        4..=5 => Item::Hint,
+        6..=7 => Item::Write(room(g)),
         _ => Item::Unknown(unknown(g)),
+    }
+}
+
+/// Room for a file: just enough, a byte too little or too much, or some number, now and then more than `callplay` lends.
+fn room(g: &mut Gen) -> Room {
+    match g.random.below(100) {
+        0..=39 => Room::Exact,
+        40..=59 => Room::Short,
+        60..=69 => Room::Long,
+        70..=74 => Room::Of(0),
+        75..=84 => Room::Of(g.random.below(400) as usize),
+        85..=91 => Room::Of(g.random.pick(&[6000, 65_534, 65_535])),
+        _ => Room::Of(g.random.pick(&[65_536, 65_537, 70_000, 300_000])),
     }
 }
 
@@ -76,9 +107,20 @@ fn unknown(g: &mut Gen) -> Vec<u32> {
     }
 }
 
-/// A kind of call that there is not, an override that is neither 0 nor 1, a number in a longer form, an early end.
+/// A kind of call that there is not, an override that is neither 0 nor 1, a number in a longer form or over 65,535, an early
+/// end.
 fn malformed(g: &mut Gen) -> Vec<u8> {
-    let ways: [&[u8]; 7] = [&[9], &[0xFF, 0xFF, 3], &[5, 0, 2], &[0x84, 0], &[3, 0x80], &[3, 97], &[0, 0, 1, 0, 0]];
+    let ways: [&[u8]; 9] = [
+        &[10],
+        &[0xFF, 0xFF, 3],
+        &[5, 0, 2],
+        &[0x84, 0],
+        &[3, 0x80],
+        &[3, 97],
+        &[0, 0, 1, 0, 0],
+        &[9],
+        &[9, 0x80, 0x80, 4],
+    ];
     let at = g.random.below(ways.len() as u64) as usize;
     // bytes that are no number: behind an early end they must be met, behind the others they must not
     let behind: &[u8] = if g.random.chance(50) { &[0xFF, 0xFF, 0xFF, 0xFF] } else { &[] };
@@ -434,11 +476,7 @@ impl Fill {
     }
 
     fn add(&mut self, call: Call) {
-        let _ = match &call {
-            Call::Map(mode, path, step) => self.graph.add_mapping(*mode, path, step),
-            Call::Prefix(mode, path, step) => self.graph.add_prefix(*mode, path, step.as_ref()),
-            _ => Ok(()),
-        };
+        let _ = self.graph.bind(&call);
         self.calls.push(call);
     }
 
@@ -522,4 +560,216 @@ fn finish(g: &mut Gen, mut fill: Fill) -> Vec<Call> {
         calls.extend([press(bound), press(g.key())]);
     }
     calls
+}
+
+// ---- map files
+
+/// Numbers of one, two and three bytes, each length at its ends.
+const WIDE: [u16; 8] = [0, 1, 127, 128, 16_383, 16_384, 32_767, 65_535];
+const BYTES: [u16; 5] = [0, 1, 127, 128, 255];
+
+fn wide_actions(g: &mut Gen) -> Vec<u16> {
+    (0..g.random.below(5)).map(|_| g.random.pick(&WIDE)).collect()
+}
+
+fn some_mode(g: &mut Gen) -> Option<u16> {
+    g.random.chance(60).then(|| g.random.small(16))
+}
+
+fn wide_tables(g: &mut Gen) -> Tables {
+    let class = |g: &mut Gen| {
+        let (a, b) = (g.random.pick(&WIDE), g.random.pick(&WIDE));
+        ClassEntry { class: g.random.pick(&BYTES), low: a.min(b), high: a.max(b) }
+    };
+    let rule = |g: &mut Gen| {
+        let (a, b) = (g.random.pick(&WIDE), g.random.pick(&WIDE));
+        let (mode, sequence, status) = (g.random.small(16), g.random.small(8), g.random.small(5));
+        Rule { mode, low: a.min(b), high: a.max(b), sequence, status }
+    };
+    let mode = |g: &mut Gen| ModeEntry { enter: wide_actions(g), unmapped: wide_actions(g), next: some_mode(g) };
+    let mut tables = Tables {
+        classes: (0..g.random.below(17)).map(|_| class(g)).collect(),
+        modes: (0..g.random.below(17)).map(|_| mode(g)).collect(),
+        rules: (0..g.random.below(65)).map(|_| rule(g)).collect(),
+    };
+    // modes at the end that are as those past the end: they are written all the same
+    let plain = g.random.below(4) as usize;
+    let longer = (tables.modes.len() + plain).min(16);
+    tables.modes.resize(longer, ModeEntry::default());
+    tables
+}
+
+fn wide_step(g: &mut Gen) -> Step {
+    Step {
+        flag: g.random.chance(30),
+        actions: wide_actions(g),
+        next: some_mode(g),
+        fallthrough: some_mode(g),
+        mark: Some(g.random.pick(&WIDE)).filter(|&m| m != 0),
+    }
+}
+
+/// A part with a number of any length. Large repeats take many nodes, so they come seldom.
+fn wide_part(g: &mut Gen) -> Part {
+    let n = if g.random.chance(12) { g.random.pick(&BYTES) } else { g.random.small(2) };
+    let event = match g.random.below(10) {
+        0..=4 => Event::Key(g.random.pick(&WIDE)),
+        5..=7 => Event::Class(g.random.pick(&BYTES)),
+        8 => Event::Any,
+        _ => Event::Fallthrough,
+    };
+    Part { repeat: g.random.pick(&[Repeat::Once, Repeat::Min(n), Repeat::Max(n)]), event }
+}
+
+fn wide_binding(g: &mut Gen) -> Call {
+    let parts = if g.random.chance(10) { 32 } else { g.random.below(5) };
+    let (mode, way) = (g.random.small(16), (0..parts).map(|_| wide_part(g)).collect());
+    match g.random.below(4) {
+        0 => Call::Prefix(mode, way, None),
+        1 => Call::Prefix(mode, way, Some(wide_step(g))),
+        _ => Call::Map(mode, way, wide_step(g)),
+    }
+}
+
+/// Every number of a map file at the ends of one, two and three bytes; then some keys, and bindings that are refused.
+fn numbers_at_edges(g: &mut Gen) -> Vec<Call> {
+    let mut calls = vec![Call::Open(wide_tables(g))];
+    calls.extend((0..g.random.below(12)).map(|_| wide_binding(g)));
+    calls.extend((0..g.random.below(4)).map(|_| press(g.random.pick(&WIDE))));
+    if g.random.chance(40) {
+        let behind = [&path(&[1])[..], &[once(Event::Fallthrough)]].concat();
+        let falls = Step { fallthrough: Some(1), ..does(1) };
+        calls.push(Call::Map(0, path(&[1]), falls));
+        calls.push(Call::Map(g.random.pick(&[16, 17, 65_535]), vec![], does(1)));
+        calls.push(Call::Map(0, behind, does(2)));
+    }
+    calls
+}
+
+// ---- kept calls
+
+/// A binding of no part: it makes no node and no edge, and is kept.
+fn empty_binding(g: &mut Gen, short: bool) -> Call {
+    match g.random.below(3) {
+        _ if short => Call::Prefix(g.random.small(16), vec![], None),
+        0 => Call::Prefix(g.random.small(16), vec![], None),
+        1 => Call::Prefix(g.random.small(16), vec![], Some(wide_step(g))),
+        _ => Call::Map(g.random.small(16), vec![], wide_step(g)),
+    }
+}
+
+/// So many kept calls beside those that are there, most of them of no part.
+fn fill_kept(g: &mut Gen, calls: &mut Vec<Call>, kept: usize) {
+    let short = g.random.chance(60);
+    calls.extend((0..kept).map(|_| empty_binding(g, short)));
+}
+
+/// Bindings of every outcome: 11 where all calls are kept, else accepted; and 1 and 4, which are met before 11.
+fn late_bindings(g: &mut Gen) -> Vec<Call> {
+    let refused = |g: &mut Gen| match g.random.below(4) {
+        0 => Call::Map(16, vec![], does(1)),
+        1 => Call::Prefix(0, vec![Part { repeat: Repeat::Min(256), event: Event::Any }], None),
+        2 => Call::Map(0, path(&[300]), Step { actions: vec![1; 5], ..Step::default() }),
+        // behind the fall of `falling`
+        _ => Call::Map(0, [&path(&[301])[..], &[once(Event::Fallthrough)]].concat(), does(2)),
+    };
+    let mut calls = vec![];
+    for _ in 0..2 + g.random.below(4) {
+        calls.push(match g.random.below(5) {
+            0 | 1 => refused(g),
+            2 => empty_binding(g, true),
+            3 => Call::Prefix(0, path(&[302]), None),
+            _ => g.binding(),
+        });
+    }
+    calls
+}
+
+/// A step that falls to mode 1.
+fn falling() -> Call {
+    Call::Map(0, path(&[301]), Step { fallthrough: Some(1), ..Step::default() })
+}
+
+/// 1,024 calls kept, or one or two fewer, and then bindings.
+fn kept_calls(g: &mut Gen) -> Vec<Call> {
+    let mut calls = vec![Call::Open(g.tables()), falling()];
+    calls.extend((0..g.random.below(6)).map(|_| Call::Map(0, path(&[g.random.small(9)]), g.step())));
+    let rest = 1024 - (calls.len() - 1) - g.random.below(3) as usize;
+    fill_kept(g, &mut calls, rest);
+    calls.extend(late_bindings(g));
+    calls.extend(presses(&some_keys(g, 4)));
+    calls
+}
+
+/// The same where no node is left, or no edge: a binding that needs one is refused by 2 or 3, before 11.
+fn kept_with_full_graph(g: &mut Gen) -> Vec<Call> {
+    let mut fill = Fill::new();
+    fill.add(falling());
+    let of_edges = g.random.chance(50);
+    let nodes = if of_edges { 1010 } else { 1024 };
+    let left = nodes - fill.graph.size().0;
+    // a Max takes two edges for a node, which are too many for all nodes
+    fill.nodes(g, left, of_edges);
+    if of_edges {
+        let left = 2048 - fill.graph.size().1;
+        fill.edges(g, left);
+    }
+    let mut calls = vec![Call::Open(Tables::default())];
+    calls.append(&mut fill.calls);
+    let rest = 1025 - calls.len() - g.random.below(2) as usize;
+    fill_kept(g, &mut calls, rest);
+    let new = [Call::Map(0, path(&[600, 601]), does(1)), Call::Prefix(0, path(&[602, 603]), None)];
+    calls.extend(new);
+    calls.extend(late_bindings(g));
+    calls
+}
+
+/// All calls kept, then an open, refused or not, after which they begin anew or are still there.
+fn kept_and_opened(g: &mut Gen) -> Vec<Call> {
+    let mut calls = kept_calls(g);
+    if g.random.chance(50) {
+        calls.push(Call::Open(Tables { modes: vec![ModeEntry::default(); 17], ..Tables::default() }));
+        calls.push(empty_binding(g, true));
+    }
+    calls.push(Call::Open(g.tables()));
+    let more = usual(g, 6);
+    calls.extend(more);
+    calls.extend(late_bindings(g));
+    calls
+}
+
+/// So many calls of the longest form. The first makes the nodes of a path; the others follow its edges whatever their repeats
+/// are.
+fn longest_calls(g: &mut Gen, count: usize) -> Vec<Call> {
+    let keys: Vec<u16> = (0..32).map(|i| 16_384 + i).collect();
+    let repeat = |g: &mut Gen| g.random.pick(&[Repeat::Min(255), Repeat::Max(255), Repeat::Max(128)]);
+    let step =
+        |g: &mut Gen| Step { actions: vec![65_535; 4], mark: Some(65_535), next: some_mode(g), ..Step::default() };
+    let mut calls = vec![Call::Map(0, path(&keys), step(g))];
+    while calls.len() < count {
+        let mut way = path(&keys);
+        way[..31].iter_mut().for_each(|p| p.repeat = repeat(g));
+        calls.push(Call::Map(0, way, step(g)));
+    }
+    calls
+}
+
+/// All calls kept and each of the longest form, some 250,000 bytes as a file.
+fn longest_file(g: &mut Gen) -> Vec<Call> {
+    let count = 1023 + g.random.below(3) as usize;
+    [vec![Call::Open(wide_tables(g))], longest_calls(g, count)].concat()
+}
+
+/// A file of 65,536 bytes, or a little more or less: a list of so many bytes still goes to `callplay`.
+fn file_of_65_536(g: &mut Gen) -> Vec<Call> {
+    let length = g.random.pick(&[65_000, 65_534, 65_535, 65_536, 65_536, 65_537]);
+    let tables = Tables { modes: vec![ModeEntry::default(); 2], ..Tables::default() };
+    let mut bindings = longest_calls(g, 260);
+    let left = length - file_of(&tables, &bindings).len();
+    // a mapping of eight, nine or ten bytes, by its mark, and then prefixes of three
+    let mark = [None, Some(128), Some(16_384)][(left - 8) % 3];
+    bindings.push(Call::Map(0, vec![], Step { mark, ..Step::default() }));
+    bindings.extend(vec![Call::Prefix(0, vec![], None); (left - 8) / 3]);
+    assert_eq!(file_of(&tables, &bindings).len(), length);
+    [vec![Call::Open(tables)], bindings].concat()
 }

@@ -2,10 +2,11 @@
 
 use std::time::Instant;
 
-use crate::calllist::{Item, List};
+use crate::calllist::{Item, List, Room};
 use crate::calls::{Call, ClassEntry, Context, Event, ModeEntry, Part, Repeat, Rule, Step, Tables};
-use crate::cases::{bytes_of, numbers_of, Case};
+use crate::cases::Case;
 use crate::mapfile;
+use crate::writing::file_of;
 
 /// Goes to a smaller input that differs, and on from there, until none does or the time is over.
 pub fn smallest<T>(start: T, smaller: fn(&T) -> Vec<T>, differs: impl Fn(&T) -> bool, until: Instant) -> T {
@@ -75,6 +76,10 @@ fn numbers(n: u16) -> Vec<u16> {
 
 fn number(n: &u16) -> Vec<u16> {
     numbers(*n)
+}
+
+fn lesser_rooms(room: usize) -> Vec<usize> {
+    [0, room / 2, room.saturating_sub(1)].into_iter().filter(|&n| n < room).collect()
 }
 
 fn optional(n: Option<u16>) -> Vec<Option<u16>> {
@@ -211,7 +216,8 @@ fn smaller_item(item: &Item) -> Vec<Item> {
             numbers(*action).into_iter().map(|a| Item::Find(*mode, a)).collect::<Vec<_>>(),
         ]
         .concat(),
-        Item::Hint | Item::Unknown(_) | Item::Malformed(_) => vec![],
+        Item::Write(Room::Of(room)) => lesser_rooms(*room).into_iter().map(|n| Item::Write(Room::Of(n))).collect(),
+        Item::Hint | Item::Write(_) | Item::Unknown(_) | Item::Malformed(_) => vec![],
     }
 }
 
@@ -224,10 +230,9 @@ pub fn smaller_list(list: &List) -> Vec<List> {
 /// The map with less in it, where it can be read.
 fn smaller_maps(map: &[u8]) -> Vec<Vec<u8>> {
     let Some((tables, bindings)) = mapfile::bindings_of(map) else { return vec![] };
-    let written = |t: &Tables, b: &[Call]| bytes_of(&numbers_of(t, b));
     [
-        fewer_or_lesser(&bindings, smaller_call).iter().map(|b| written(&tables, b)).collect(),
-        smaller_tables(&tables).iter().map(|t| written(t, &bindings)).collect::<Vec<_>>(),
+        fewer_or_lesser(&bindings, smaller_call).iter().map(|b| file_of(&tables, b)).collect(),
+        smaller_tables(&tables).iter().map(|t| file_of(t, &bindings)).collect::<Vec<_>>(),
     ]
     .concat()
 }
@@ -253,14 +258,12 @@ pub fn smaller_input(input: &Vec<u8>) -> Vec<Vec<u8>> {
 }
 
 pub fn smaller_case(case: &Case) -> Vec<Case> {
-    let size = case.lent.len();
-    let rooms: Vec<usize> = [0, size / 2, size.saturating_sub(1)].into_iter().filter(|&n| n < size).collect();
     [
         with(case, smaller_maps(&case.map), |c, map| c.map = map),
         with(case, smaller_bytes(&case.keys), |c, keys| c.keys = keys),
         with(case, smaller_bytes(&case.map), |c, map| c.map = map),
         with(case, numbers(case.budget), |c, budget| c.budget = budget),
-        with(case, rooms, |c, room| c.lent.truncate(room)),
+        with(case, lesser_rooms(case.lent.len()), |c, room| c.lent.truncate(room)),
     ]
     .concat()
 }

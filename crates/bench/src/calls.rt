@@ -1,26 +1,34 @@
 // Calls on a machine by value over the map of a map file.
+use keptcalls::call::BindingCall;
 use keygraph::find::Found;
 use keygraph::number;
 use keymachine::context::Context;
 use keymachine::context::Override;
 use keymachine::live::Waiting;
-use keymachine::machine::Map;
 use keymachine::machine::ModalMachine;
 use keymachine::pair::Pair;
+use keymachine::scanner::Scanner;
 use keymachine::tables::Tables;
 use keymachine::tracker::SequenceTracker;
 use keymachine::tracker::Status;
 use mapfile::map;
 
-// The machine of a map file.
+// The machine of a map file, with the words of its kept calls.
+fn scanner_of(bytes: &[u8]) -> Scanner {
+    let mut kept = [0u64; BindingCall::ALL_WORDS];
+    let r = map::read_map(bytes, &mut kept);
+    let map = r.map;
+    let machine = ModalMachine::over(map);
+    Scanner {
+        machine: machine,
+        kept: kept,
+    }
+}
+
+// The machine alone.
 fn machine_of(bytes: &[u8]) -> ModalMachine {
-    let r = map::read_map(bytes);
-    let graph = r.graph;
-    let tables = r.tables;
-    ModalMachine::over(Map {
-        graph: graph,
-        tables: tables,
-    })
+    let s = scanner_of(bytes);
+    s.machine
 }
 
 // By value: a call for each key, and pops up to the one that gives nothing.
@@ -74,11 +82,11 @@ fn remembered() -> u16 {
 // nodes that are left above it, and the pairs of a sequence above those.
 #[no_mangle]
 pub extern "C" fn bench_other_calls(bytes: &[u8]) -> u64 {
-    let m = machine_of(bytes);
-    let mapped = m.add_mapping(1, crate::two_keys(1, 2), crate::one_action(3));
-    let a = mapped.machine;
+    let s = scanner_of(bytes);
+    let mapped = s.add_mapping(1, crate::two_keys(1, 2), crate::one_action(3));
+    let a = mapped.scanner;
     let prefixed = a.add_prefix(2, crate::two_keys(1, 2), true, crate::one_action(3));
-    let b = prefixed.machine;
+    let b = prefixed.scanner.machine;
     let repeated = b.repeat(0, Override::By(Context { count: 5, mark: 6 }));
     let c = repeated.machine;
     let reset = c.reset_mode();
@@ -98,14 +106,15 @@ fn stir(sum: u64, word: u16) -> u64 {
 // call do less is put back before it. Here a mapping of two keys, bound again and again.
 #[no_mangle]
 pub extern "C" fn bench_mappings(bytes: &[u8], times: u16) -> u64 {
-    let mut m = machine_of(bytes);
+    let mut s = scanner_of(bytes);
     let mut sum = 0u64;
     let mut i = 0u16;
     while i < times {
-        let r = m.add_mapping(1, crate::two_keys(1, 2), crate::one_action(i));
-        let next = r.machine;
-        m = next;
-        sum = stir(sum, m.map.graph.counts.nodes);
+        s.machine.map.kept = 0;
+        let r = s.add_mapping(1, crate::two_keys(1, 2), crate::one_action(i));
+        let next = r.scanner;
+        s = next;
+        sum = stir(sum, s.machine.map.graph.counts.nodes);
         i = i + 1;
     }
     sum
@@ -114,14 +123,15 @@ pub extern "C" fn bench_mappings(bytes: &[u8], times: u16) -> u64 {
 // A prefix of two keys without a step, bound again and again.
 #[no_mangle]
 pub extern "C" fn bench_prefixes(bytes: &[u8], times: u16) -> u64 {
-    let mut m = machine_of(bytes);
+    let mut s = scanner_of(bytes);
     let mut sum = 0u64;
     let mut i = 0u16;
     while i < times {
-        let r = m.add_prefix(1, crate::two_keys(1, 2), false, crate::one_action(i));
-        let next = r.machine;
-        m = next;
-        sum = stir(sum, m.map.graph.counts.nodes);
+        s.machine.map.kept = 0;
+        let r = s.add_prefix(1, crate::two_keys(1, 2), false, crate::one_action(i));
+        let next = r.scanner;
+        s = next;
+        sum = stir(sum, s.machine.map.graph.counts.nodes);
         i = i + 1;
     }
     sum

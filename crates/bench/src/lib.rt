@@ -1,6 +1,9 @@
 // What the benchmark measures, in a form that C and Rust can call. Nothing of the product uses this crate.
 pub mod calls;
 
+use keptcalls::call::BindingCall;
+use keybind::map;
+use keybind::map::Map;
 use keygraph::answer::Answer;
 use keygraph::event::EdgeEvent;
 use keygraph::event::EdgeRepeat;
@@ -105,19 +108,27 @@ pub extern "C" fn bench_add_in_place(n: u16) -> u16 {
     counts.nodes
 }
 
-// The same, by value.
+// The same, by value, with the calls kept.
 #[no_mangle]
 pub extern "C" fn bench_add_by_value(n: u16) -> u16 {
-    let mut g = Graph::fresh();
+    let graph = Graph::fresh();
+    let tables = TableWords::empty();
+    let mut kept = [0u64; BindingCall::ALL_WORDS];
+    let mut m = Map {
+        graph: graph,
+        tables: tables,
+        kept: 0,
+    };
     let mut i = 0u16;
     while i < n {
         let path = two_keys(i, 7);
         let step = one_action(i);
-        let r = mapping::add_mapping(g, 0, path, step);
-        let next = r.graph;
-        g = next;
+        let r = map::add_mapping(&mut kept, m, 0, path, step);
+        let next = r.map;
+        m = next;
         i = i + 1;
     }
-    let counts = g.counts;
+    let last = m.graph;
+    let counts = last.counts;
     counts.nodes
 }

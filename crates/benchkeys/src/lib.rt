@@ -3,6 +3,7 @@
 //
 // An answer has how many pairs there were above 32 bits that depend on every number of every pair and on their order, so that
 // nobody times other work than the Rust's.
+use keptcalls::call::BindingCall;
 use keygraph::graph::Counts;
 use keygraph::graph::Graph;
 use keygraph::index::Index;
@@ -85,15 +86,16 @@ fn keys_over<'a>(
 
 #[no_mangle]
 pub extern "C" fn bench_keys_in_place<'a>(bytes: &'a [u8], keys: &'a [u16], budget: u16) -> u64 {
-    let m = map::read_map(bytes);
-    let counts = m.graph.counts;
-    let index = layout::index_of(&m.graph.words, counts.edges);
+    let mut kept = [0u64; BindingCall::ALL_WORDS];
+    let m = map::read_map(bytes, &mut kept);
+    let counts = m.map.graph.counts;
+    let index = layout::index_of(&m.map.graph.words, counts.edges);
     keys_over(
         keys,
-        &m.graph.words,
+        &m.map.graph.words,
         counts,
         &index.links,
-        &m.tables.words,
+        &m.map.tables.words,
         budget,
     )
 }

@@ -3,7 +3,7 @@ use framed::Player;
 use libc::STDIN_FILENO;
 
 fn main() {
-    let mut input = [0u8; 200000];
+    let mut input = [0u8; 250000];
     let n = io::read_full(STDIN_FILENO, &mut input);
     framed::cases(&input[..n], Player::Keyplay);
 }

@@ -1,4 +1,4 @@
-// The key graph: adding bindings to it, in place and by value. A function that has the name of a definition of
+// The key graph: adding bindings to it, in place. A function that has the name of a definition of
 // crates/rules/specs/Graph.antt is proved equal to it, by the views of the crates below; what the others do is said in the same
 // terms.
 //

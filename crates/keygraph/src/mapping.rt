@@ -1,6 +1,5 @@
-// Adding a mapping, in place and by value.
+// Adding a mapping, in place.
 use crate::added::AddResult;
-use crate::added::GraphResult;
 use crate::cursor::Cursor;
 use crate::repeat;
 use keyparts::graph::Counts;
@@ -21,9 +20,8 @@ ghost use lib.ListN.{length};
 ghost use Rattle.rules.specs.Basics as b;
 ghost use Rattle.rules.specs.Values as v;
 ghost use Rattle.rules.specs.Graph as g;
-ghost use Rattle.keyvalues.specs.View.{eventAt, nodeIn, partOf, repeatOf, maybeOf, stepOf, pathOf, wholePath, wholeStep, settled, resultBy};
-ghost use Rattle.keyparts.specs.View.{graphIn, graphOf};
-ghost use Rattle.keygraph.specs.View.{addedOf};
+ghost use Rattle.keyvalues.specs.View.{eventAt, nodeIn, partOf, repeatOf, maybeOf, stepOf, pathOf, wholePath, wholeStep, resultBy};
+ghost use Rattle.keyparts.specs.View.{graphIn};
 ghost use Rattle.keygraph.specs.Making.{Leads, cameTo};
 
 impl Cursor {
@@ -177,13 +175,4 @@ pub fn add_mapping_or_scratch(
         counts: counts,
         answer: Answer::Refused(1),
     }
-}
-
-// A mapping more, by value. Refused, the graph is the one before.
-pub fn add_mapping(graph: Graph, mode: u16, path: EdgePath, step: Step) -> GraphResult
-    ensures { λ r. ⌜ addedOf r ≡ settled (graphOf graph) (b.unless (v.mapValid mode (wholePath path) (wholeStep step)) 1 (g.addMapping mode (wholePath path) (wholeStep step) (graphOf graph))) ⌝ }
-{
-    let mut words = graph.words;
-    let r = add_mapping_or_scratch(&mut words, graph.counts, mode, path, step);
-    GraphResult::settled(graph, words, r)
 }

@@ -1,6 +1,5 @@
-// Adding a prefix, in place and by value. A prefix may have a step: `chosen` says so, and else the step beside it is not looked at.
+// Adding a prefix, in place. A prefix may have a step: `chosen` says so, and else the step beside it is not looked at.
 use crate::added::AddResult;
-use crate::added::GraphResult;
 use crate::cursor::Cursor;
 use crate::repeat;
 use keyparts::graph::Counts;
@@ -23,9 +22,8 @@ ghost use lib.ListN.{length};
 ghost use Rattle.rules.specs.Basics as b;
 ghost use Rattle.rules.specs.Values as v;
 ghost use Rattle.rules.specs.Graph as g;
-ghost use Rattle.keyvalues.specs.View.{eventAt, nodeIn, partOf, repeatOf, stepOf, pathOf, wholePath, wholeStep, chosenOf, stepsValid, settled, resultBy};
-ghost use Rattle.keyparts.specs.View.{graphIn, graphOf};
-ghost use Rattle.keygraph.specs.View.{addedOf};
+ghost use Rattle.keyvalues.specs.View.{eventAt, nodeIn, partOf, repeatOf, stepOf, pathOf, wholePath, wholeStep, chosenOf, stepsValid, resultBy};
+ghost use Rattle.keyparts.specs.View.{graphIn};
 ghost use Rattle.keygraph.specs.Making.{Leads, cameTo};
 
 impl Cursor {
@@ -239,13 +237,4 @@ pub fn add_prefix_or_scratch(
         counts: counts,
         answer: Answer::Refused(1),
     }
-}
-
-// A prefix more, by value; `chosen`: it has the step. Refused, the graph is the one before.
-pub fn add_prefix(graph: Graph, mode: u16, path: EdgePath, chosen: bool, step: Step) -> GraphResult
-    ensures { λ r. ⌜ addedOf r ≡ settled (graphOf graph) (b.unless (v.prefixValid mode (wholePath path) (chosenOf chosen (wholeStep step))) 1 (g.addPrefix mode (wholePath path) (chosenOf chosen (wholeStep step)) (graphOf graph))) ⌝ }
-{
-    let mut words = graph.words;
-    let r = add_prefix_or_scratch(&mut words, graph.counts, mode, path, chosen, step);
-    GraphResult::settled(graph, words, r)
 }

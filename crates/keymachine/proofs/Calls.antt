@@ -2,20 +2,24 @@
 use Prim.Native.Nat.{ℕ, zero, suc, _+_, _-_, _≤_, min}
 use mathlib.Core.Path.{_≡_, refl, sym, ap, _∙_}
 use mathlib.Core.Bool.{Bool, true, false}
-use mathlib.Core.Option.{Option}
 use mathlib.Core.List.{List, [], _∷_, map}
 use native.Mathlib.Omega.{arith}
 use lib.ListN.{length, take, drop, getD, length-drop}
 use lib.Seq.{paste, take-paste}
-use Rattle.rules.specs.Basics.{Result, accept, refuse, _>>=_, unless}
-use Rattle.rules.specs.Values.{Context, Pair, Part, Step, mapValid, prefixValid}
+use Rattle.rules.specs.Basics.{Result, accept, _>>=_}
+use Rattle.rules.specs.Values.{Context, Pair}
 use Rattle.rules.specs.Tables.{Tables, tablesValid}
-use Rattle.rules.specs.Graph.{Graph, addMapping, addPrefix}
+use Rattle.rules.specs.Graph.{Graph}
 use Rattle.rules.specs.KeyLoop.{Tracker, State, at, withQueue, KeyResult, Input, inputKey, gotoMode, resetMode}
-use Rattle.rules.specs.Calls.{Machine, Answer, Accepted, Refused, Pressed, PressRefused, Popped, Nothing, withBindings, withState, withShared, fresh, open-with, settled, pressed, popped, map-call, prefix-call, key-call, reset-call, call, Open, Map, Prefix, Press, Pop, Reset, graphKind, graphNavigator}
-use Rattle.keyvalues.specs.View as values
+use Rattle.rules.specs.Calls.{Machine, Accepted, Refused, Pressed, PressRefused, Popped, Nothing, withState, withShared, fresh, open-with, settled, pressed, popped, key-call, reset-call, call, Open, Press, Pop, Reset, graphKind, graphNavigator}
 use Rattle.keyvalues.specs.View.{outcome}
 use Rattle.keypairs.specs.View.{pairOf, pairsOf, broke, shared}
+use Rattle.keyvalues.specs.declared.tables.TableWords.{TableWords}
+use Rattle.keytables.specs.View.{tablesIn}
+use Rattle.keybind.specs.declared.map.Map.{Map}
+use Rattle.keybind.specs.View.{mapWith}
+use Rattle.keymachine.specs.declared.live.Live.{Live}
+use Rattle.keymachine.specs.View.{liveOf, machineIn}
 use Rattle.keyloop.proofs.Lists.{drop-take, take-min}
 
 -- ---- open
@@ -36,23 +40,9 @@ not-opened s m t b e h em = ap (λ (x : Machine graphKind). (x, Refused 1)) em �
 
 -- ---- map and prefix
 
-bound : (s : Machine graphKind) (g : Graph) (a : Answer) (r : Result Graph) → _≡_ {A = Graph × Answer} (g, a) (values.settled (s .bindings) r)
-    → (withBindings graphKind s g, a) ≡ settled graphKind s (r >>= λ b. accept (withBindings graphKind s b))
-unfolding values.settled settled
-bound s g a (accept b) e = ap (λ (x : Graph × Answer). (withBindings graphKind s (x .0), x .1)) e
-bound s g a (refuse n) e = ap (λ (x : Graph × Answer). (withBindings graphKind s (x .0), x .1)) e
-
-pub mapped : (s : Machine graphKind) (g : Graph) (a : Answer) (mode : ℕ) (ps : List Part) (st : Step)
-    → _≡_ {A = Graph × Answer} (g, a) (values.settled (s .bindings) (unless (mapValid mode ps st) 1 (addMapping mode ps st (s .bindings))))
-    → (withBindings graphKind s g, a) ≡ call graphKind s (Map mode ps st)
-unfolding call map-call
-mapped s g a mode ps st e = bound s g a _ e
-
-pub prefixed : (s : Machine graphKind) (g : Graph) (a : Answer) (mode : ℕ) (ps : List Part) (st : Option Step)
-    → _≡_ {A = Graph × Answer} (g, a) (values.settled (s .bindings) (unless (prefixValid mode ps st) 1 (addPrefix mode ps st (s .bindings))))
-    → (withBindings graphKind s g, a) ≡ call graphKind s (Prefix mode ps st)
-unfolding call prefix-call
-prefixed s g a mode ps st e = bound s g a _ e
+-- a map with other bindings and the same tables, under the same live state
+pub under : (ws : List ℕ) (m : Map) (t : TableWords) (l : Live) → m .tables ≡ t → machineIn ws m l ≡ mapWith ws m (liveOf (tablesIn (t .words)) l)
+under ws m t l e = ap (λ (t : TableWords). mapWith ws m (liveOf (tablesIn (t .words)) l)) e
 
 -- ---- key
 

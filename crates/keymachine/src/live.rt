@@ -15,7 +15,9 @@ use keypairs::state::State;
 use keypairs::tracker;
 use keypairs::tracker::SequenceTracker;
 ghost use mathlib.Core.Path.{_≡_};
+ghost use mathlib.Core.List.{List};
 ghost use lib.ListN.{length};
+ghost use Rattle.rules.specs.Values.{Binding};
 ghost use Rattle.rules.specs.Tables.{Tables};
 ghost use Rattle.rules.specs.Graph.{Graph as Bindings};
 ghost use Rattle.rules.specs.Calls.{graphKind, call, fresh, mode-call, Press, Pop, Repeats, Reset};
@@ -71,7 +73,7 @@ pub fn input_key(
     budget: u16,
 ) -> LiveKeyResult
     requires { ⌜ length (now words) ≡ 4128 ⌝ }
-    ensures { λ r. ⌜ (machineBy (graphIn (now (words .entry)) counts) (tablesIn (tables .words)) (r .live), pressOf (r .answer)) ≡ call graphKind (machineBy (graphIn (now (words .entry)) counts) (tablesIn (tables .words)) live) (Press (record { key = key; budget = budget })) ⌝ }
+    ensures { λ r. ⌜ ((ks : List Binding) → (machineBy (graphIn (now (words .entry)) counts) ks (tablesIn (tables .words)) (r .live), pressOf (r .answer)) ≡ call graphKind (machineBy (graphIn (now (words .entry)) counts) ks (tablesIn (tables .words)) live) (Press (record { key = key; budget = budget }))) ⌝ }
 {
     let mut queue = live.queue;
     let mut sequences = live.sequences;
@@ -127,7 +129,7 @@ impl Live {
 
     // The first waiting pair, if there is one.
     pub fn pop(self) -> LivePopResult
-        ensures { λ r. ⌜ ((g : Bindings) (t : Tables) → (machineBy g t (r .live), popOf (r .answer)) ≡ call graphKind (machineBy g t self) Pop) ⌝ }
+        ensures { λ r. ⌜ ((g : Bindings) (ks : List Binding) (t : Tables) → (machineBy g ks t (r .live), popOf (r .answer)) ≡ call graphKind (machineBy g ks t self) Pop) ⌝ }
     {
         let mut s = self.state;
         let n = number::least_of(s.queued, Pair::QUEUE as usize);
@@ -154,7 +156,7 @@ impl Live {
 
     // Mode 0 is entered and every sequence broken. The trail is kept.
     pub fn reset_mode(self, tables: TableWords) -> LiveResult
-        ensures { λ r. ⌜ ((g : Bindings) → (machineBy g (tablesIn (tables .words)) (r .live), answerOf (r .answer)) ≡ call graphKind (machineBy g (tablesIn (tables .words)) self) Reset) ⌝ }
+        ensures { λ r. ⌜ ((g : Bindings) (ks : List Binding) → (machineBy g ks (tablesIn (tables .words)) (r .live), answerOf (r .answer)) ≡ call graphKind (machineBy g ks (tablesIn (tables .words)) self) Reset) ⌝ }
     {
         let mut queue = self.queue;
         let mut broken = self.sequences;
@@ -181,7 +183,7 @@ impl Live {
 
     // The remembered pairs of the sequence, overridden and stored again, go before the queue.
     pub fn repeat(self, sequence: u16, over: Override) -> LiveResult
-        ensures { λ r. ⌜ ((g : Bindings) (t : Tables) → (machineBy g t (r .live), answerOf (r .answer)) ≡ call graphKind (machineBy g t self) (Repeats sequence (overOf over))) ⌝ }
+        ensures { λ r. ⌜ ((g : Bindings) (ks : List Binding) (t : Tables) → (machineBy g ks t (r .live), answerOf (r .answer)) ≡ call graphKind (machineBy g ks t self) (Repeats sequence (overOf over))) ⌝ }
     {
         if SequenceTracker::SEQUENCES <= sequence {
             return LiveResult {
@@ -219,7 +221,7 @@ impl Live {
 
     // The entered mode.
     pub fn mode(self) -> u16
-        ensures { λ r. ⌜ ((g : Bindings) (t : Tables) → r ≡ mode-call graphKind (machineBy g t self)) ⌝ }
+        ensures { λ r. ⌜ ((g : Bindings) (ks : List Binding) (t : Tables) → r ≡ mode-call graphKind (machineBy g ks t self)) ⌝ }
     {
         let s = self.state;
         s.mode

@@ -4,31 +4,24 @@ use crate::live;
 use crate::live::Live;
 use crate::live::Pressed;
 use crate::live::Waiting;
+use keybind::map::Map;
 use keygraph::answer::Answer;
 use keygraph::find::Found;
 use keygraph::graph::Graph;
-use keygraph::mapping;
-use keygraph::path::EdgePath;
-use keygraph::prefix;
-use keygraph::step::Step;
 use keygraph::tables::TableWords;
 use keypairs::context::Override;
 use keytables::tables::Tables;
 ghost use mathlib.Core.Path.{_≡_};
+ghost use mathlib.Core.List.{List};
+ghost use Prim.Native.Nat.{ℕ};
 ghost use Rattle.rules.specs.Tables.{noTables};
-ghost use Rattle.rules.specs.Calls.{graphKind, call, fresh, withBindings, mode-call, Open, Map as Mapping, Prefix, Press, Pop, Repeats, Reset, FindFits, HintFits};
-ghost use Rattle.keyvalues.specs.View.{wholePath, wholeStep, chosenOf, answerOf};
+ghost use Rattle.rules.specs.Calls.{graphKind, call, fresh, mode-call, Open, Press, Pop, Repeats, Reset, FindFits, HintFits};
+ghost use Rattle.keyvalues.specs.View.{answerOf};
 ghost use Rattle.keyparts.specs.View.{foundOf, graphOf};
 ghost use Rattle.keytables.specs.View.{wholeTables, tablesIn};
 ghost use Rattle.keypairs.specs.View.{overOf};
+ghost use Rattle.keybind.specs.View.{mapWith};
 ghost use Rattle.keymachine.specs.View.{machineOf, pressOf, popOf};
-
-// What open and the bindings change.
-#[repr(C)]
-pub struct Map {
-    pub graph: Graph,
-    pub tables: TableWords,
-}
 
 #[repr(C)]
 pub struct ModalMachine {
@@ -36,7 +29,7 @@ pub struct ModalMachine {
     pub live: Live,
 }
 
-// What open, map, prefix, repeat and reset hand back.
+// What open, repeat and reset hand back.
 pub struct CallResult {
     pub machine: ModalMachine,
     pub answer: Answer,
@@ -55,19 +48,20 @@ pub struct PopResult {
 impl ModalMachine {
     // The fresh machine with no tables: mode 0, no pair, no trail, no binding.
     pub fn fresh() -> ModalMachine
-        ensures { λ r. ⌜ machineOf r ≡ fresh graphKind noTables ⌝ }
+        ensures { λ r. ⌜ ((ws : List ℕ) → machineOf ws r ≡ fresh graphKind noTables) ⌝ }
     {
         let graph = Graph::fresh();
         let tables = TableWords::empty();
         ModalMachine::over(Map {
             graph: graph,
             tables: tables,
+            kept: 0,
         })
     }
 
     // The fresh machine over a map.
     pub fn over(map: Map) -> ModalMachine
-        ensures { λ r. ⌜ machineOf r ≡ withBindings graphKind (fresh graphKind (tablesIn (map .tables .words))) (graphOf (map .graph)) ⌝ }
+        ensures { λ r. ⌜ ((ws : List ℕ) → machineOf ws r ≡ mapWith ws map (fresh graphKind (tablesIn (map .tables .words)) .state)) ⌝ }
     {
         let live = Live::fresh();
         ModalMachine {
@@ -78,7 +72,7 @@ impl ModalMachine {
 
     // The fresh machine with the tables. Refused, the machine as it was.
     pub fn open(self, tables: Tables) -> CallResult
-        ensures { λ r. ⌜ (machineOf (r .machine), answerOf (r .answer)) ≡ call graphKind (machineOf self) (Open (wholeTables tables)) ⌝ }
+        ensures { λ r. ⌜ ((ws : List ℕ) → (machineOf ws (r .machine), answerOf (r .answer)) ≡ call graphKind (machineOf ws self) (Open (wholeTables tables))) ⌝ }
     {
         let p = tables.pack();
         if p.valid {
@@ -88,6 +82,7 @@ impl ModalMachine {
                 machine: ModalMachine::over(Map {
                     graph: graph,
                     tables: words,
+                    kept: 0,
                 }),
                 answer: Answer::Accepted,
             };
@@ -98,53 +93,9 @@ impl ModalMachine {
         }
     }
 
-    // A mapping more.
-    pub fn add_mapping(self, mode: u16, path: EdgePath, step: Step) -> CallResult
-        ensures { λ r. ⌜ (machineOf (r .machine), answerOf (r .answer)) ≡ call graphKind (machineOf self) (Mapping mode (wholePath path) (wholeStep step)) ⌝ }
-    {
-        let g = self.map.graph;
-        let r = mapping::add_mapping(g, mode, path, step);
-        let graph = r.graph;
-        let answer = r.answer;
-        let tables = self.map.tables;
-        let live = self.live;
-        CallResult {
-            machine: ModalMachine {
-                map: Map {
-                    graph: graph,
-                    tables: tables,
-                },
-                live: live,
-            },
-            answer: answer,
-        }
-    }
-
-    // A prefix more; `chosen`: it has the step.
-    pub fn add_prefix(self, mode: u16, path: EdgePath, chosen: bool, step: Step) -> CallResult
-        ensures { λ r. ⌜ (machineOf (r .machine), answerOf (r .answer)) ≡ call graphKind (machineOf self) (Prefix mode (wholePath path) (chosenOf chosen (wholeStep step))) ⌝ }
-    {
-        let g = self.map.graph;
-        let r = prefix::add_prefix(g, mode, path, chosen, step);
-        let graph = r.graph;
-        let answer = r.answer;
-        let tables = self.map.tables;
-        let live = self.live;
-        CallResult {
-            machine: ModalMachine {
-                map: Map {
-                    graph: graph,
-                    tables: tables,
-                },
-                live: live,
-            },
-            answer: answer,
-        }
-    }
-
     // One key.
     pub fn input_key(self, key: u16, budget: u16) -> KeyResult
-        ensures { λ r. ⌜ (machineOf (r .machine), pressOf (r .answer)) ≡ call graphKind (machineOf self) (Press (record { key = key; budget = budget })) ⌝ }
+        ensures { λ r. ⌜ ((ws : List ℕ) → (machineOf ws (r .machine), pressOf (r .answer)) ≡ call graphKind (machineOf ws self) (Press (record { key = key; budget = budget }))) ⌝ }
     {
         let mut m = self;
         let counts = self.map.graph.counts;
@@ -162,7 +113,7 @@ impl ModalMachine {
 
     // The first waiting pair, if there is one.
     pub fn pop(self) -> PopResult
-        ensures { λ r. ⌜ (machineOf (r .machine), popOf (r .answer)) ≡ call graphKind (machineOf self) Pop ⌝ }
+        ensures { λ r. ⌜ ((ws : List ℕ) → (machineOf ws (r .machine), popOf (r .answer)) ≡ call graphKind (machineOf ws self) Pop) ⌝ }
     {
         let live = self.live;
         let r = live.pop();
@@ -180,7 +131,7 @@ impl ModalMachine {
 
     // Mode 0 is entered and every sequence broken. The trail is kept.
     pub fn reset_mode(self) -> CallResult
-        ensures { λ r. ⌜ (machineOf (r .machine), answerOf (r .answer)) ≡ call graphKind (machineOf self) Reset ⌝ }
+        ensures { λ r. ⌜ ((ws : List ℕ) → (machineOf ws (r .machine), answerOf (r .answer)) ≡ call graphKind (machineOf ws self) Reset) ⌝ }
     {
         let live = self.live;
         let tables = self.map.tables;
@@ -199,7 +150,7 @@ impl ModalMachine {
 
     // The remembered pairs of the sequence, overridden and stored again, go before the queue.
     pub fn repeat(self, sequence: u16, over: Override) -> CallResult
-        ensures { λ r. ⌜ (machineOf (r .machine), answerOf (r .answer)) ≡ call graphKind (machineOf self) (Repeats sequence (overOf over)) ⌝ }
+        ensures { λ r. ⌜ ((ws : List ℕ) → (machineOf ws (r .machine), answerOf (r .answer)) ≡ call graphKind (machineOf ws self) (Repeats sequence (overOf over))) ⌝ }
     {
         let live = self.live;
         let r = live.repeat(sequence, over);
@@ -217,7 +168,7 @@ impl ModalMachine {
 
     // The entered mode.
     pub fn mode(self) -> u16
-        ensures { λ r. ⌜ r ≡ mode-call graphKind (machineOf self) ⌝ }
+        ensures { λ r. ⌜ ((ws : List ℕ) → r ≡ mode-call graphKind (machineOf ws self)) ⌝ }
     {
         let live = self.live;
         live.mode()
@@ -225,7 +176,7 @@ impl ModalMachine {
 
     // Some node of the mode whose step has the action.
     pub fn find(self, mode: u16, action: u16) -> Found
-        ensures { λ r. ⌜ FindFits (machineOf self .bindings) mode action (foundOf r) ⌝ }
+        ensures { λ r. ⌜ FindFits (graphOf (self .map .graph)) mode action (foundOf r) ⌝ }
     {
         let g = self.map.graph;
         g.find(mode, action)
@@ -233,7 +184,7 @@ impl ModalMachine {
 
     // How many nodes are left.
     pub fn free_nodes(self) -> u16
-        ensures { λ r. ⌜ HintFits (machineOf self .bindings) r ⌝ }
+        ensures { λ r. ⌜ HintFits (graphOf (self .map .graph)) r ⌝ }
     {
         let g = self.map.graph;
         g.free_nodes()

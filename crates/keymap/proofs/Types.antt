@@ -31,8 +31,8 @@ use Rattle.keymachine.proofs.live.Pressed.Laws as Pressed′
 use Rattle.keymachine.proofs.live.Waiting as Waiting
 use Rattle.keymachine.proofs.live.Waiting.Laws as Waiting′
 use Rattle.keyparts.proofs.graph.Graph as Graph
-use Rattle.keygraph.proofs.added.GraphResult as GraphResult
-use Rattle.keymachine.proofs.machine.Map as Map
+use Rattle.keybind.proofs.map.Map as Map
+use Rattle.keybind.proofs.map.MapResult as MapResult
 use Rattle.keymachine.proofs.machine.ModalMachine as ModalMachine
 use Rattle.keymachine.proofs.machine.CallResult as CallResult
 use Rattle.keymachine.proofs.live.LiveKeyResult as LiveKeyResult
@@ -40,7 +40,7 @@ use Rattle.keymachine.proofs.live.LivePopResult as LivePopResult
 use Rattle.keymachine.proofs.live.LiveResult as LiveResult
 use Rattle.keymachine.proofs.scanner.Scanner as Scanner
 use Rattle.keymap.proofs.coded.CodedResult as CodedResult
-use Rattle.keymap.proofs.coded.CodedGraph as CodedGraph
+use Rattle.keymap.proofs.coded.CodedMap as CodedMap
 use Rattle.keymap.proofs.coded.CodedLive as CodedLive
 
 abbrev pub u16 : Data
@@ -57,6 +57,9 @@ bool = record { of = bool-field; mir = tyBool; laws = bool-laws; plain = bool-pl
 
 abbrev pub words : Data
 words = record { of = array-field u64-field 4128; mir = tyArray (tyInt w64) 4128; laws = array-laws u64-field u64-laws 4128; plain = array-plain u64-field u64-plain 4128 }
+
+abbrev pub kept-words : Data
+kept-words = record { of = array-field u64-field 18432; mir = tyArray (tyInt w64) 18432; laws = array-laws u64-field u64-laws 18432; plain = array-plain u64-field u64-plain 18432 }
 
 abbrev pub counts : Data
 counts = record { of = Counts.the-field; mir = Counts′.mir; laws = Counts′.the-field-laws; plain = Counts′.the-field-plain }
@@ -91,12 +94,18 @@ waiting = record { of = Waiting.the-field; mir = Waiting′.mir; laws = Waiting�
 abbrev pub found : Data
 found = record { of = Found.the-field; mir = Found′.mir; laws = Found′.the-field-laws; plain = Found′.the-field-plain }
 
--- the array of words has its length
+-- an array of words has its length
 abbrev pub Long : List ℕ → Type 0
 Long ws = length ws ≡ 4128
 
 pub words-long : (ws : List ℕ) → Fine words ws → Long (words .of .into ws)
 words-long ws is = is .1 .0 .1
+
+abbrev pub KeptLong : List ℕ → Type 0
+KeptLong ws = length ws ≡ 18432
+
+pub kept-long : (ws : List ℕ) → Fine kept-words ws → KeptLong (kept-words .of .into ws)
+kept-long ws is = is .1 .0 .1
 
 -- ---- the structs that a path goes through
 abbrev pub graph-fields : Struct (words ∷ counts ∷ [])
@@ -105,17 +114,20 @@ graph-fields = record { name = Graph.the-type .name; Value = Graph.the-type .D; 
 abbrev pub graph : Data
 graph = data-of graph-fields
 
-abbrev pub map-fields : Struct (graph ∷ tables ∷ [])
-map-fields = record { name = Map.the-type .name; Value = Map.the-type .D; to = λ x. (x .graph, (x .tables, tt)); from = λ t. record { graph = t .0; tables = t .1 .0 }; to-from = λ t. refl; to-one = Map.the-type .to-one }
+abbrev pub map-fields : Struct (graph ∷ tables ∷ u16 ∷ [])
+map-fields = record { name = Map.the-type .name; Value = Map.the-type .D; to = λ x. (x .graph, (x .tables, (x .kept, tt))); from = λ t. record { graph = t .0; tables = t .1 .0; kept = t .1 .1 .0 }; to-from = λ t. refl; to-one = Map.the-type .to-one }
 
-abbrev pub machine-fields : Struct (data-of map-fields ∷ live ∷ [])
+abbrev pub map : Data
+map = data-of map-fields
+
+abbrev pub machine-fields : Struct (map ∷ live ∷ [])
 machine-fields = record { name = ModalMachine.the-type .name; Value = ModalMachine.the-type .D; to = λ x. (x .map, (x .live, tt)); from = λ t. record { map = t .0; live = t .1 .0 }; to-from = λ t. refl; to-one = ModalMachine.the-type .to-one }
 
 abbrev pub machine : Data
 machine = data-of machine-fields
 
-abbrev pub scanner-fields : Struct (machine ∷ [])
-scanner-fields = record { name = Scanner.the-type .name; Value = Scanner.the-type .D; to = λ x. (x .machine, tt); from = λ t. record { machine = t .0 }; to-from = λ t. refl; to-one = Scanner.the-type .to-one }
+abbrev pub scanner-fields : Struct (machine ∷ kept-words ∷ [])
+scanner-fields = record { name = Scanner.the-type .name; Value = Scanner.the-type .D; to = λ x. (x .machine, (x .kept, tt)); from = λ t. record { machine = t .0; kept = t .1 .0 }; to-from = λ t. refl; to-one = Scanner.the-type .to-one }
 
 abbrev pub scanner : Data
 scanner = data-of scanner-fields
@@ -127,11 +139,21 @@ the-machine = field-of scanner-fields 0 tt
 abbrev pub the-live : Spot scanner live
 the-live = the-machine then field-of machine-fields 1 tt
 
+abbrev pub the-map : Spot scanner map
+the-map = the-machine then field-of machine-fields 0 tt
+
 abbrev pub the-graph : Spot scanner graph
 the-graph = the-machine then field-of machine-fields 0 tt then field-of map-fields 0 tt
 
 abbrev pub the-tables : Spot scanner tables
 the-tables = the-machine then field-of machine-fields 0 tt then field-of map-fields 1 tt
+
+-- how many calls are kept, and their words
+abbrev pub the-count : Spot scanner u16
+the-count = the-machine then field-of machine-fields 0 tt then field-of map-fields 2 tt
+
+abbrev pub the-kept : Spot scanner kept-words
+the-kept = field-of scanner-fields 1 tt
 
 abbrev pub the-words : Spot scanner words
 the-words = the-graph then field-of graph-fields 0 tt
@@ -140,8 +162,8 @@ abbrev pub the-counts : Spot scanner counts
 the-counts = the-graph then field-of graph-fields 1 tt
 
 -- ---- what the calls by value hand back: the new part, and the answer
-abbrev pub added : Struct (graph ∷ answer ∷ [])
-added = record { name = GraphResult.the-type .name; Value = GraphResult.the-type .D; to = λ x. (x .graph, (x .answer, tt)); from = λ t. record { graph = t .0; answer = t .1 .0 }; to-from = λ t. refl; to-one = GraphResult.the-type .to-one }
+abbrev pub bound : Struct (map ∷ answer ∷ [])
+bound = record { name = MapResult.the-type .name; Value = MapResult.the-type .D; to = λ x. (x .map, (x .answer, tt)); from = λ t. record { map = t .0; answer = t .1 .0 }; to-from = λ t. refl; to-one = MapResult.the-type .to-one }
 
 abbrev pub called : Struct (machine ∷ answer ∷ [])
 called = record { name = CallResult.the-type .name; Value = CallResult.the-type .D; to = λ x. (x .machine, (x .answer, tt)); from = λ t. record { machine = t .0; answer = t .1 .0 }; to-from = λ t. refl; to-one = CallResult.the-type .to-one }
@@ -158,8 +180,8 @@ live-called = record { name = LiveResult.the-type .name; Value = LiveResult.the-
 abbrev pub coded-machine : Struct (machine ∷ u64 ∷ [])
 coded-machine = record { name = CodedResult.the-type .name; Value = CodedResult.the-type .D; to = λ x. (x .machine, (x .answer, tt)); from = λ t. record { machine = t .0; answer = t .1 .0 }; to-from = λ t. refl; to-one = CodedResult.the-type .to-one }
 
-abbrev pub coded-graph : Struct (graph ∷ u64 ∷ [])
-coded-graph = record { name = CodedGraph.the-type .name; Value = CodedGraph.the-type .D; to = λ x. (x .graph, (x .answer, tt)); from = λ t. record { graph = t .0; answer = t .1 .0 }; to-from = λ t. refl; to-one = CodedGraph.the-type .to-one }
+abbrev pub coded-map : Struct (map ∷ u64 ∷ [])
+coded-map = record { name = CodedMap.the-type .name; Value = CodedMap.the-type .D; to = λ x. (x .map, (x .answer, tt)); from = λ t. record { map = t .0; answer = t .1 .0 }; to-from = λ t. refl; to-one = CodedMap.the-type .to-one }
 
 abbrev pub coded-live : Struct (live ∷ u64 ∷ [])
 coded-live = record { name = CodedLive.the-type .name; Value = CodedLive.the-type .D; to = λ x. (x .live, (x .answer, tt)); from = λ t. record { live = t .0; answer = t .1 .0 }; to-from = λ t. refl; to-one = CodedLive.the-type .to-one }

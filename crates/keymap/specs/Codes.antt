@@ -4,12 +4,11 @@ use mathlib.Core.Path.{_≡_}
 use mathlib.Core.Option.{Option, none, some}
 use mathlib.Core.List.{List}
 use lib.Dec.{leb}
-use Rattle.rules.specs.Basics.{Result, accept, refuse, unless}
+use Rattle.rules.specs.Basics.{Result, accept, refuse, _>>=_, unless}
 use Rattle.rules.specs.Values.{largest}
 use Rattle.rules.specs.Graph.{Graph}
-use Rattle.rules.specs.Calls.{Machine, graphKind, settled, repeat-call, Answer, Accepted, Refused, Popped, Nothing, Pressed, PressRefused, FindFits, HintFits}
-use Rattle.rules.specs.MapFile.{readMap}
-use Rattle.mapfile.specs.View.{bindAlone}
+use Rattle.rules.specs.Calls.{Machine, graphKind, bind, settled, repeat-call, Answer, Accepted, Refused, Popped, Nothing, Pressed, PressRefused, FindFits, HintFits}
+use Rattle.rules.specs.MapFile.{readBinding, atEnd, readMap}
 
 -- ---- answers
 
@@ -51,6 +50,12 @@ pub record Hints (g : Graph) (number : ℕ) : Type 0 where
 abbrev pub openMap : Machine graphKind → List ℕ → Machine graphKind × Answer
 openMap m bytes = settled graphKind m (readMap bytes)
 
+-- a binding that stands alone: it is read with nothing after it, and then called
+abbrev pub bindAlone : Machine graphKind → List ℕ → Result (Machine graphKind)
+bindAlone m bs = do
+  x ← atEnd (readBinding bs)
+  bind graphKind x m
+
 -- map or prefix by the bytes of one binding in the map file's layout
 abbrev pub bindMap : Machine graphKind → List ℕ → Machine graphKind × Answer
 bindMap m bytes = settled graphKind m (bindAlone m bytes)
@@ -63,4 +68,4 @@ repeatOver m sequence count mark = settled graphKind m (unless (leb count larges
 
 -- the bytes of a scanner that is lent; `proofs/Size.antt` proves that they are the bytes of its type
 abbrev pub scannerBytes : ℕ
-scannerBytes = 40432
+scannerBytes = 187896

@@ -1,5 +1,9 @@
 // The calls that C makes, by value on the part that they change or look at, with their answers as numbers.
 use crate::codes;
+use keptcalls::call::BindingCall;
+use keptcalls::keep;
+use keybind::map as bound;
+use keybind::map::Map;
 use keygraph::answer::Answer;
 use keygraph::graph::Counts;
 use keygraph::graph::Graph;
@@ -8,13 +12,16 @@ use keymachine::context::Context;
 use keymachine::context::Override;
 use keymachine::live;
 use keymachine::live::Live;
-use keymachine::machine::Map;
 use keymachine::machine::ModalMachine;
 use mapfile::map;
+use mapparts::binding;
+use mapparts::place::FilePlace;
 ghost use mathlib.Core.Path.{_≡_};
+ghost use mathlib.Core.List.{List};
 ghost use mathlib.Core.Option.{none};
 ghost use Prim.Native.Nat.{ℕ};
 ghost use lib.ListN.{length};
+ghost use Rattle.rules.specs.Values.{Binding};
 ghost use Rattle.rules.specs.Tables.{Tables};
 ghost use Rattle.rules.specs.Graph.{Graph as Bindings};
 ghost use Rattle.rules.specs.KeyLoop.{State};
@@ -22,7 +29,7 @@ ghost use Rattle.rules.specs.Calls.{graphKind, call, mode-call, Press, Pop, Rep
 ghost use Rattle.keyparts.specs.View.{graphIn, graphOf};
 ghost use Rattle.keytables.specs.View.{tablesIn};
 ghost use Rattle.keymachine.specs.View.{machineBy, machineOf};
-ghost use Rattle.mapfile.specs.View as file;
+ghost use Rattle.keybind.specs.View.{mapWith};
 ghost use Rattle.keymap.specs.Codes.{coded, openMap, bindMap, repeatOver, Finds, Hints};
 
 // The machine after a call, and its answer's number.
@@ -31,9 +38,9 @@ pub struct CodedResult {
     pub answer: u64,
 }
 
-// The graph after a call, and its answer's number.
-pub struct CodedGraph {
-    pub graph: Graph,
+// The map after a call, and its answer's number.
+pub struct CodedMap {
+    pub map: Map,
     pub answer: u64,
 }
 
@@ -43,11 +50,14 @@ pub struct CodedLive {
     pub answer: u64,
 }
 
-// The fresh machine over the map that was read. Refused, `m`.
-pub fn open(m: ModalMachine, map: &[u8]) -> CodedResult
-    ensures { λ r. ⌜ (machineOf (r .machine), r .answer) ≡ coded (openMap (machineOf m) (now (map .entry))) ⌝ }
+// The fresh machine over the map that was read, with its bindings' calls kept. They are read into words of their own, since a
+// map that is refused must leave those that are kept. Refused, `m`.
+pub fn open(kept: &mut [u64; BindingCall::ALL_WORDS], m: ModalMachine, map: &[u8]) -> CodedResult
+    requires { ⌜ length (now kept) ≡ 18432 ⌝ }
+    ensures { λ r. ⌜ (length (now (kept .exit)) ≡ 18432) × ((machineOf (now (kept .exit)) (r .machine), r .answer) ≡ coded (openMap (machineOf (now (kept .entry)) m) (now (map .entry)))) ⌝ }
 {
-    let r = map::read_map(map);
+    let mut read = [0u64; BindingCall::ALL_WORDS];
+    let r = map::read_map(map, &mut read);
     let answer = r.answer;
     match answer {
         Answer::Refused(n) => {
@@ -57,28 +67,36 @@ pub fn open(m: ModalMachine, map: &[u8]) -> CodedResult
             };
         }
         Answer::Accepted => {
-            let graph = r.graph;
-            let tables = r.tables;
+            let next = r.map;
+            keep::copy_calls(kept, &read, next.kept);
             return CodedResult {
-                machine: ModalMachine::over(Map {
-                    graph: graph,
-                    tables: tables,
-                }),
+                machine: ModalMachine::over(next),
                 answer: 0,
             };
         }
     }
 }
 
-// One binding of a map file more. Refused, `graph`.
-pub fn bind(graph: Graph, binding: &[u8]) -> CodedGraph
-    ensures { λ r. ⌜ ((x : State ℕ) → (file.machineBy (graphOf (r .graph)) x, r .answer) ≡ coded (bindMap (file.machineBy (graphOf graph) x) (now (binding .entry)))) ⌝ }
+// One binding of a map file more. It is read to its end before it is called. Refused, `map`.
+pub fn bind(kept: &mut [u64; BindingCall::ALL_WORDS], map: Map, binding: &[u8]) -> CodedMap
+    requires { ⌜ length (now kept) ≡ 18432 ⌝ }
+    ensures { λ r. ⌜ (length (now (kept .exit)) ≡ 18432) × (r .map .tables ≡ map .tables) × ((x : State ℕ) → (mapWith (now (kept .exit)) (r .map) x, r .answer) ≡ coded (bindMap (mapWith (now (kept .entry)) map x) (now (binding .entry)))) ⌝ }
 {
-    let r = map::add_binding(graph, binding);
-    let next = r.graph;
+    let start = FilePlace { at: 0, refusal: 0 };
+    let read = binding::read_binding(binding, start);
+    let end = read.place.end(binding);
+    if end.refusal != 0 {
+        return CodedMap {
+            map: map,
+            answer: end.refusal as u64,
+        };
+    }
+    let call = read.call;
+    let r = bound::bind(kept, map, call);
+    let next = r.map;
     let answer = r.answer;
-    CodedGraph {
-        graph: next,
+    CodedMap {
+        map: next,
         answer: codes::answer_code(answer),
     }
 }
@@ -92,7 +110,7 @@ pub fn input_key(
     budget: u16,
 ) -> CodedLive
     requires { ⌜ length (now words) ≡ 4128 ⌝ }
-    ensures { λ r. ⌜ (machineBy (graphIn (now (words .entry)) counts) (tablesIn (tables .words)) (r .live), r .answer) ≡ coded (call graphKind (machineBy (graphIn (now (words .entry)) counts) (tablesIn (tables .words)) live) (Press (record { key = key; budget = budget }))) ⌝ }
+    ensures { λ r. ⌜ ((ks : List Binding) → (machineBy (graphIn (now (words .entry)) counts) ks (tablesIn (tables .words)) (r .live), r .answer) ≡ coded (call graphKind (machineBy (graphIn (now (words .entry)) counts) ks (tablesIn (tables .words)) live) (Press (record { key = key; budget = budget })))) ⌝ }
 {
     let r = live::input_key(words, counts, tables, live, key, budget);
     let next = r.live;
@@ -104,7 +122,7 @@ pub fn input_key(
 }
 
 pub fn pop(live: Live) -> CodedLive
-    ensures { λ r. ⌜ ((g : Bindings) (t : Tables) → (machineBy g t (r .live), r .answer) ≡ coded (call graphKind (machineBy g t live) Pop)) ⌝ }
+    ensures { λ r. ⌜ ((g : Bindings) (ks : List Binding) (t : Tables) → (machineBy g ks t (r .live), r .answer) ≡ coded (call graphKind (machineBy g ks t live) Pop)) ⌝ }
 {
     let r = live.pop();
     let next = r.live;
@@ -116,7 +134,7 @@ pub fn pop(live: Live) -> CodedLive
 }
 
 pub fn repeat(live: Live, sequence: u16) -> CodedLive
-    ensures { λ r. ⌜ ((g : Bindings) (t : Tables) → (machineBy g t (r .live), r .answer) ≡ coded (call graphKind (machineBy g t live) (Repeats sequence none))) ⌝ }
+    ensures { λ r. ⌜ ((g : Bindings) (ks : List Binding) (t : Tables) → (machineBy g ks t (r .live), r .answer) ≡ coded (call graphKind (machineBy g ks t live) (Repeats sequence none))) ⌝ }
 {
     let r = live.repeat(sequence, Override::Nothing);
     let next = r.live;
@@ -129,7 +147,7 @@ pub fn repeat(live: Live, sequence: u16) -> CodedLive
 
 // A count that is no number of the rules is refused.
 pub fn repeat_over(live: Live, sequence: u16, count: u32, mark: u16) -> CodedLive
-    ensures { λ r. ⌜ ((g : Bindings) (t : Tables) → (machineBy g t (r .live), r .answer) ≡ coded (repeatOver (machineBy g t live) sequence count mark)) ⌝ }
+    ensures { λ r. ⌜ ((g : Bindings) (ks : List Binding) (t : Tables) → (machineBy g ks t (r .live), r .answer) ≡ coded (repeatOver (machineBy g ks t live) sequence count mark)) ⌝ }
 {
     if 65535 < count {
         return CodedLive {
@@ -151,7 +169,7 @@ pub fn repeat_over(live: Live, sequence: u16, count: u32, mark: u16) -> CodedLiv
 }
 
 pub fn reset_mode(live: Live, tables: TableWords) -> CodedLive
-    ensures { λ r. ⌜ ((g : Bindings) → (machineBy g (tablesIn (tables .words)) (r .live), r .answer) ≡ coded (call graphKind (machineBy g (tablesIn (tables .words)) live) Reset)) ⌝ }
+    ensures { λ r. ⌜ ((g : Bindings) (ks : List Binding) → (machineBy g ks (tablesIn (tables .words)) (r .live), r .answer) ≡ coded (call graphKind (machineBy g ks (tablesIn (tables .words)) live) Reset)) ⌝ }
 {
     let r = live.reset_mode(tables);
     let next = r.live;
@@ -164,7 +182,7 @@ pub fn reset_mode(live: Live, tables: TableWords) -> CodedLive
 
 // The three that only look.
 pub fn mode(live: Live) -> u64
-    ensures { λ r. ⌜ ((g : Bindings) (t : Tables) → r ≡ mode-call graphKind (machineBy g t live)) ⌝ }
+    ensures { λ r. ⌜ ((g : Bindings) (ks : List Binding) (t : Tables) → r ≡ mode-call graphKind (machineBy g ks t live)) ⌝ }
 {
     live.mode() as u64
 }

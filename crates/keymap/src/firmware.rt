@@ -3,12 +3,14 @@
 use crate::coded;
 use keymachine::scanner::Scanner;
 use mapfile::run;
+use mapwrite::map;
 ghost use mathlib.Core.Path.{_≡_};
 ghost use mathlib.Core.Option.{none};
 ghost use lib.ListN.{length};
 ghost use Rattle.rules.specs.Calls.{graphKind, call, mode-call, Press, Pop, Repeats, Reset};
-ghost use Rattle.rules.specs.Run.{run, answered};
-ghost use Rattle.keymachine.specs.View.{machineOf};
+ghost use Rattle.rules.specs.Run.{pairBytes, run, answered};
+ghost use Rattle.rules.specs.Writing.{write-call};
+ghost use Rattle.keymachine.specs.View.{scannerOf};
 ghost use Rattle.keymap.specs.Codes.{coded, openMap, bindMap, repeatOver, Finds, Hints, scannerBytes};
 
 // The bytes that C lends for a scanner.
@@ -16,15 +18,15 @@ ghost use Rattle.keymap.specs.Codes.{coded, openMap, bindMap, repeatOver
 pub extern "C" fn keymap_size() -> usize
     ensures { λ r. ⌜ r ≡ scannerBytes ⌝ }
 {
-    40432
+    187896
 }
 
 // The machine of a map file, fresh and with its bindings. Refused, the machine is as it was.
 #[no_mangle]
 pub extern "C" fn keymap_open(m: &mut Scanner, map: &[u8]) -> u64
-    ensures { λ r. ⌜ (machineOf (now (m .exit) .machine), r) ≡ coded (openMap (machineOf (now (m .entry) .machine)) (now (map .entry))) ⌝ }
+    ensures { λ r. ⌜ (scannerOf (now (m .exit)), r) ≡ coded (openMap (scannerOf (now (m .entry))) (now (map .entry))) ⌝ }
 {
-    let r = coded::open((*m).machine, map);
+    let r = coded::open(&mut (*m).kept, (*m).machine, map);
     (*m).machine = r.machine;
     r.answer
 }
@@ -32,16 +34,16 @@ pub extern "C" fn keymap_open(m: &mut Scanner, map: &[u8]) -> u64
 // One binding more, in the map file's layout. Refused, the machine is as it was.
 #[no_mangle]
 pub extern "C" fn keymap_bind(m: &mut Scanner, binding: &[u8]) -> u64
-    ensures { λ r. ⌜ (machineOf (now (m .exit) .machine), r) ≡ coded (bindMap (machineOf (now (m .entry) .machine)) (now (binding .entry))) ⌝ }
+    ensures { λ r. ⌜ (scannerOf (now (m .exit)), r) ≡ coded (bindMap (scannerOf (now (m .entry))) (now (binding .entry))) ⌝ }
 {
-    let r = coded::bind((*m).machine.map.graph, binding);
-    (*m).machine.map.graph = r.graph;
+    let r = coded::bind(&mut (*m).kept, (*m).machine.map, binding);
+    (*m).machine.map = r.map;
     r.answer
 }
 
 #[no_mangle]
 pub extern "C" fn keymap_key(m: &mut Scanner, key: u16, budget: u16) -> u64
-    ensures { λ r. ⌜ (machineOf (now (m .exit) .machine), r) ≡ coded (call graphKind (machineOf (now (m .entry) .machine)) (Press (record { key = key; budget = budget }))) ⌝ }
+    ensures { λ r. ⌜ (scannerOf (now (m .exit)), r) ≡ coded (call graphKind (scannerOf (now (m .entry))) (Press (record { key = key; budget = budget }))) ⌝ }
 {
     let r = coded::input_key(
         &(*m).machine.map.graph.words,
@@ -57,7 +59,7 @@ pub extern "C" fn keymap_key(m: &mut Scanner, key: u16, budget: u16) -> u64
 
 #[no_mangle]
 pub extern "C" fn keymap_pop(m: &mut Scanner) -> u64
-    ensures { λ r. ⌜ (machineOf (now (m .exit) .machine), r) ≡ coded (call graphKind (machineOf (now (m .entry) .machine)) Pop) ⌝ }
+    ensures { λ r. ⌜ (scannerOf (now (m .exit)), r) ≡ coded (call graphKind (scannerOf (now (m .entry))) Pop) ⌝ }
 {
     let r = coded::pop((*m).machine.live);
     (*m).machine.live = r.live;
@@ -66,7 +68,7 @@ pub extern "C" fn keymap_pop(m: &mut Scanner) -> u64
 
 #[no_mangle]
 pub extern "C" fn keymap_repeat(m: &mut Scanner, sequence: u16) -> u64
-    ensures { λ r. ⌜ (machineOf (now (m .exit) .machine), r) ≡ coded (call graphKind (machineOf (now (m .entry) .machine)) (Repeats sequence none)) ⌝ }
+    ensures { λ r. ⌜ (scannerOf (now (m .exit)), r) ≡ coded (call graphKind (scannerOf (now (m .entry))) (Repeats sequence none)) ⌝ }
 {
     let r = coded::repeat((*m).machine.live, sequence);
     (*m).machine.live = r.live;
@@ -75,7 +77,7 @@ pub extern "C" fn keymap_repeat(m: &mut Scanner, sequence: u16) -> u64
 
 #[no_mangle]
 pub extern "C" fn keymap_repeat_over(m: &mut Scanner, sequence: u16, count: u32, mark: u16) -> u64
-    ensures { λ r. ⌜ (machineOf (now (m .exit) .machine), r) ≡ coded (repeatOver (machineOf (now (m .entry) .machine)) sequence count mark) ⌝ }
+    ensures { λ r. ⌜ (scannerOf (now (m .exit)), r) ≡ coded (repeatOver (scannerOf (now (m .entry))) sequence count mark) ⌝ }
 {
     let r = coded::repeat_over((*m).machine.live, sequence, count, mark);
     (*m).machine.live = r.live;
@@ -84,39 +86,53 @@ pub extern "C" fn keymap_repeat_over(m: &mut Scanner, sequence: u16, count: u32,
 
 #[no_mangle]
 pub extern "C" fn keymap_reset(m: &mut Scanner) -> u64
-    ensures { λ r. ⌜ (machineOf (now (m .exit) .machine), r) ≡ coded (call graphKind (machineOf (now (m .entry) .machine)) Reset) ⌝ }
+    ensures { λ r. ⌜ (scannerOf (now (m .exit)), r) ≡ coded (call graphKind (scannerOf (now (m .entry))) Reset) ⌝ }
 {
     let r = coded::reset_mode((*m).machine.live, (*m).machine.map.tables);
     (*m).machine.live = r.live;
     r.answer
 }
 
-// The three that only look.
+// The four that only look.
 #[no_mangle]
 pub extern "C" fn keymap_mode(m: &Scanner) -> u64
-    ensures { λ r. ⌜ r ≡ mode-call graphKind (machineOf (now (m .entry) .machine)) ⌝ }
+    ensures { λ r. ⌜ r ≡ mode-call graphKind (scannerOf (now (m .entry))) ⌝ }
 {
     coded::mode((*m).machine.live)
 }
 
 #[no_mangle]
 pub extern "C" fn keymap_find(m: &Scanner, mode: u16, action: u16) -> u64
-    ensures { λ r. ⌜ Finds (machineOf (now (m .entry) .machine) .bindings) mode action r ⌝ }
+    ensures { λ r. ⌜ Finds (scannerOf (now (m .entry)) .bindings) mode action r ⌝ }
 {
     coded::find((*m).machine.map.graph, mode, action)
 }
 
 #[no_mangle]
 pub extern "C" fn keymap_free(m: &Scanner) -> u64
-    ensures { λ r. ⌜ Hints (machineOf (now (m .entry) .machine) .bindings) r ⌝ }
+    ensures { λ r. ⌜ Hints (scannerOf (now (m .entry)) .bindings) r ⌝ }
 {
     coded::free_nodes((*m).machine.map.graph)
+}
+
+// The map file of the machine: its tables and the binding calls that it kept. Length × 32 + refusal; accepted, the bytes stand
+// in front of the output and the rest of it stays; refused, all of it is zeros.
+#[no_mangle]
+pub extern "C" fn keymap_write(m: &Scanner, output: &mut [u8]) -> u64
+    ensures { λ r. ⌜ (r, now (output .exit)) ≡ write-call graphKind (scannerOf (now (m .entry))) (now (output .entry)) ⌝ }
+{
+    map::write_map(
+        &(*m).kept,
+        (*m).machine.map.kept,
+        (*m).machine.map.tables,
+        output,
+    )
 }
 
 // A map and keys at once, without a scanner.
 #[no_mangle]
 pub extern "C" fn keymap_run(map: &[u8], keys: &[u8], output: &mut [u8], budget: u16) -> u64
-    ensures { λ r. ⌜ (r, now (output .exit)) ≡ answered (now (output .entry)) (run (now (map .entry)) (now (keys .entry)) budget (length (now (output .entry)))) ⌝ }
+    ensures { λ r. ⌜ (r, now (output .exit)) ≡ answered pairBytes (now (output .entry)) (run (now (map .entry)) (now (keys .entry)) budget (length (now (output .entry)))) ⌝ }
 {
     run::run(map, keys, output, budget)
 }

@@ -119,6 +119,12 @@ unfoldable pub chosenOf : Bool → v.Step → Option v.Step
 chosenOf true s = some s
 chosenOf false s = none
 
+-- the call of a kind, which is 0 for a mapping, 1 for a prefix and 2 for a prefix with the step
+unfoldable pub callOf : ℕ → ℕ → List v.Part → v.Step → v.Binding
+callOf zero mode path st = v.Maps mode path st
+callOf (suc zero) mode path st = v.Prefixes mode path none
+callOf (suc (suc k)) mode path st = v.Prefixes mode path (some st)
+
 unfoldable pub stepsValid : Option v.Step → Bool
 stepsValid none = true
 stepsValid (some s) = v.stepValid s

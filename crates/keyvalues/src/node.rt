@@ -69,7 +69,7 @@ pub fn unopt(x: u64) -> Maybe
     }
 }
 
-fn bit(b: bool) -> u64
+pub fn bit(b: bool) -> u64
     ensures { λ r. ⌜ (eqb r 1 ≡ b) × (r < 2) ⌝ }
 {
     if b { 1 } else { 0 }

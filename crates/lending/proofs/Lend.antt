@@ -126,7 +126,7 @@ module _ {n : ℕ} (g : Lending n) where
         let has : Has E (state f first c none none ts) (temp f first zero) _ _ p = has-temp f first c bs zero _ _ p ts (refl, refl) in
         assigns ! (addr ! (spot ! refl (hop ! (look-in ! 0 (holds ! E (state f first c none none (none ∷ nil)) 1 (ref f first) _ (vptr (c .b) (c .o)) (refl, refl))) (m .at .leads ! (stop !)))))
         (spot ! (sets-sits E (state f first c none none (none ∷ nil)) (temp f first zero) _ _ p (state f first c none none (some p ∷ nil)) sets) (stop !)) (fills ! 0 E (state f first c none none (none ∷ nil)) (state f first c none none (some p ∷ nil)) (temp f first zero) refl sets (tt, tt)) $
-        loads-on ! n E _ (c .b) (c .o) (c .h) is (ref f first) (bs .1 .0) Ls (temp-blocks f first bs .1) next (λ ss. state f first c none none (some p ∷ ss)) (λ ss. (refl, refl)) (λ i τ d v ss ss′ e. sets-temp f first c bs (suc i) τ d v (some p ∷ ss) (some p ∷ ss′) (refl, e))
+        loads-on ! n E _ (c .b) (c .o) (c .h) is (ref f first) (bs .1 .0) Ls [] (temp-blocks f first bs .1) next (λ ss. state f first c none none (some p ∷ ss)) (λ ss. (refl, refl)) (λ i τ d v ss ss′ e. sets-temp f first c bs (suc i) τ d v (some p ∷ ss) (some p ∷ ss′) (refl, e))
         -- the part is lent on for a lifetime ν of the call
         (lft-new ! tt (λ ν. move ! (2 ∷ []) $ use1 W (laterI (someI (λ (δ : GName). ‵ (m .own (ν ∷ []) (ref-to (m .at) (c .h) (c .b) (c .o) δ) (p ∷ [])) ⊛ raw (m .Kept 𝓤 H A (c .h) (c .b) (c .o) ν δ)))) (m .lends 𝓤 H A W (c .h) (c .b) (c .o) ν is) $ await ! tt $ pick ! (λ δ. split ! $
         move ! (2 ∷ 4 ∷ 0 ∷ 5 ∷ []) $ join ! $ join ! $ join ! $ use1 W (raw (Method .pre (to W c ν δ))) (goes W c ν δ is) $

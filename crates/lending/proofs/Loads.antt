@@ -1,7 +1,7 @@
 -- Parts of a lent state that are loaded into locals, any number of them, as a call's first arguments.
 --     loads n Ls, gets n Ls h     the parts as parameters, and their values in the state h
 --     load-all sh Ls           the code that loads them, into the places sh 0, sh 1, …
---     loads-on                 it does.        goes-all       what the call asks to own: the parts are plain, so what they own is had for nothing
+--     loads-on                 it does, where further locals may stand after those places.        goes-all       what the call asks to own: the parts are plain, so what they own is had for nothing
 -- Assumes nothing.
 use mathlib.Core.Path.{refl}
 use Prim.Native.Nat.{ℕ, zero, suc}
@@ -45,16 +45,16 @@ module _ {S : Data} where
     goes-all (l ∷ Ls) = via 𝓤 _ (emp∗ 𝓤 _) (mono∗ 𝓤 (makes 𝓤 H A (l .of) (l .at .get h) _ (l .at .fine h is)) (goes-all Ls))
 
   module _ {M : Type 1} {𝓤 : URA M} {H : Heap 𝓤} {A : Atoms 𝓤} {K : Type 0} {W : Given 𝓤 H A} {Γ : List (Item 𝓤)} {C : Calls 𝓤 H} {Λ : Loops 𝓤 H} {q : Post 𝓤 H} where
-    pub loads-on : K → (n : ℕ) (E : Env 𝓤 H) (s : Share) (b o : ℕ) (h : S .of .Value) → Fine S h → (ref : Ty) (c : ℕ) (Ls : List (Load S)) (bs : Blocks (types-then 0 (loads n Ls) [])) (sh : ℕ → ℕ) (g : States → States)
-        → ((ts : States) → Has E (g ts) 1 ref c (vptr b o)) → ((i : ℕ) (τ : Ty) (d : ℕ) (v : Val) (ss ts : States) → Sets (at-blocks (types-then 0 (loads n Ls) []) bs) ss i τ d v ts → Sets E (g ss) (sh i) τ d v (g ts)) → {body : Code}
-        → Seq K W (frame 𝓤 E (g (filled (loads n Ls) (gets n Ls h) [])) ∷ ‵ (fat s (S .mir) b o (val S h)) ∷ Γ) (runs C Λ E body q)
-        → Seq K W (frame 𝓤 E (g (nones (types-then 0 (loads n Ls) []))) ∷ ‵ (fat s (S .mir) b o (val S h)) ∷ Γ) (runs C Λ E (load-all sh Ls body) q)
-    loads-on k n E s b o h is ref c [] bs sh g has cl w = w
-    loads-on k n E s b o h is ref c (l ∷ Ls) bs sh g has cl w =
+    pub loads-on : K → (n : ℕ) (E : Env 𝓤 H) (s : Share) (b o : ℕ) (h : S .of .Value) → Fine S h → (ref : Ty) (c : ℕ) (Ls : List (Load S)) (τs : List Ty) (bs : Blocks (types-then 0 (loads n Ls) τs)) (sh : ℕ → ℕ) (g : States → States)
+        → ((ts : States) → Has E (g ts) 1 ref c (vptr b o)) → ((i : ℕ) (τ : Ty) (d : ℕ) (v : Val) (ss ts : States) → Sets (at-blocks (types-then 0 (loads n Ls) τs) bs) ss i τ d v ts → Sets E (g ss) (sh i) τ d v (g ts)) → {body : Code}
+        → Seq K W (frame 𝓤 E (g (filled (loads n Ls) (gets n Ls h) (nones τs))) ∷ ‵ (fat s (S .mir) b o (val S h)) ∷ Γ) (runs C Λ E body q)
+        → Seq K W (frame 𝓤 E (g (nones (types-then 0 (loads n Ls) τs))) ∷ ‵ (fat s (S .mir) b o (val S h)) ∷ Γ) (runs C Λ E (load-all sh Ls body) q)
+    loads-on k n E s b o h is ref c [] τs bs sh g has cl w = w
+    loads-on k n E s b o h is ref c (l ∷ Ls) τs bs sh g has cl w =
         let v : Val = val (l .of) (l .at .get h) in
-        let before : States = none ∷ nones (types-then 0 (loads n Ls) []) in
-        let then : States = some v ∷ nones (types-then 0 (loads n Ls) []) in
+        let before : States = none ∷ nones (types-then 0 (loads n Ls) τs) in
+        let then : States = some v ∷ nones (types-then 0 (loads n Ls) τs) in
         let here : Sets E (g before) (sh zero) (l .of .mir) (bs .0) v (g then) = cl zero (l .of .mir) (bs .0) v before then (refl, refl) in
         assigns k (of-opd k (load k (spot k (has-sits E (g before) 1 ref c (vptr b o) (has before)) (hop k (look-in k 0 (holds k E (g before) 1 ref c (vptr b o) (has before))) (l .at .leads k (stop k)))) (look-in k 1 (l .at .inside k h (whole k)))))
         (spot k (sets-sits E (g before) (sh zero) (l .of .mir) (bs .0) v (g then) here) (stop k)) (fills k 0 E (g before) (g then) (sh zero) refl here (typed 𝓤 H A (l .of) W (l .at .get h) (l .at .fine h is))) $
-        loads-on k n E s b o h is ref c Ls (bs .1) (λ i. sh (suc i)) (λ ts. g (some v ∷ ts)) (λ ts. has (some v ∷ ts)) (λ i τ d u ss ts e. cl (suc i) τ d u (some v ∷ ss) (some v ∷ ts) (refl, e)) w
+        loads-on k n E s b o h is ref c Ls τs (bs .1) (λ i. sh (suc i)) (λ ts. g (some v ∷ ts)) (λ ts. has (some v ∷ ts)) (λ i τ d u ss ts e. cl (suc i) τ d u (some v ∷ ss) (some v ∷ ts) (refl, e)) w

@@ -121,7 +121,7 @@ module _ {n : ℕ} (f : Look n) where
               looks ! tt (rowOf S) (Is (rowOf S)) (shows 𝓤 H A (rowOf S)) (λ y. val S y ∷ []) (tells S) (copied 𝓤 H A S) h b o (λ q′ vs. spelt ! (rowOf S) (Is (rowOf S)) (shows 𝓤 H A (rowOf S)) (λ y. val S y ∷ []) (tells S) q′ h vs b o $
               use1 W (‵ (fat q′ (S .mir) b o (val S h))) (W .laws .raw-at q′ (S .mir) b o (val S h)) $ move ! (1 ∷ []) $ facts ! (rowOf S) (Is (rowOf S)) (shows 𝓤 H A (rowOf S)) h (val S h ∷ []) (λ is. move ! (5 ∷ 0 ∷ []) $
               -- [the locals; a share of the cell; what shuts it; the fractured borrow; the tokens; what the parameters own; nothing]
-              loads-on ! n (at-blocks kinds bs) q′ b o h is ref (bs .1 .0) Ls (later 1 Xs temps (bs .1 .1)) temp (state c none) (λ ss. (refl, refl)) (λ i τ d v ss ss′ e. (refl, (refl, past-sets 1 Xs temps (bs .1 .1) (given c) ss ss′ i τ d v e)))
+              loads-on ! n (at-blocks kinds bs) q′ b o h is ref (bs .1 .0) Ls [] (later 1 Xs temps (bs .1 .1)) temp (state c none) (λ ss. (refl, refl)) (λ i τ d v ss ss′ e. (refl, (refl, past-sets 1 Xs temps (bs .1 .1) (given c) ss ss′ i τ d v e)))
               (move ! (4 ∷ 5 ∷ []) $ calls-on Ls Xs R 𝓤 H A Φ W c ! 𝓣 k known (at-blocks kinds bs) (state c none ts) temp
               (record { temps = later 1 Xs temps (bs .1 .1); has-temp = λ i τ d v e. past-has 1 Xs temps (bs .1 .1) (given c) ts i τ d v e; types = temps; params = bs .1 .1; states = ts; has-param = λ i τ d v e. e }) is (λ v r is′ e.
               -- [the answer; the tokens; the locals; a share of the cell; what shuts it; the fractured borrow; nothing]

@@ -40,7 +40,7 @@ module _ {n : ℕ} (f : Call n) where
         → (k : Name) (W : Given 𝓤 H A) (𝓣 : Tables 𝓤 H) → Triple 𝓤 (𝓣 .C k) Method → Meets 𝓤 H A (lent f [] .signature) (WpFn 𝓤 H (𝓣 .C) (𝓣 .Λ) (code k)) (closing 𝓤 H A (lent f []) (told f [] 𝓤 H A Ψ))
     meets Ψ lift k W 𝓣 known = meets-by f [] 𝓤 H A Ψ W 𝓣 (body k) (λ c bs is.
         let ts : States = filled (loads n Ls) (gets n Ls (c .h)) [] in
-        loads-on ! n (env f [] bs) _ (c .b) (c .o) (c .h) is (ref f []) (bs .1 .0) Ls (temp-blocks f [] bs) (temp f []) (state f [] c none none) (λ ss. (refl, refl)) (sets-temp f [] c bs) (move ! (2 ∷ 3 ∷ []) $
+        loads-on ! n (env f [] bs) _ (c .b) (c .o) (c .h) is (ref f []) (bs .1 .0) Ls [] (temp-blocks f [] bs) (temp f []) (state f [] c none none) (λ ss. (refl, refl)) (sets-temp f [] c bs) (move ! (2 ∷ 3 ∷ []) $
         calls-on Ls Xs P 𝓤 H A (λ t r. Φ t (new .get r) (ans .get r)) W c ! 𝓣 k known (env f [] bs) (state f [] c none none ts) (temp f [])
         (record { temps = temp-blocks f [] bs; has-temp = λ i τ d v. has-temp f [] c bs i τ d v ts; types = P .mir ∷ temps f []; params = param-blocks f [] bs; states = none ∷ ts; has-param = λ i τ d v e. e }) is
         (λ v r is′ e. drop ! $ move ! (1 ∷ 2 ∷ []) $ finishes f [] 𝓤 H A Ψ W c (𝓣 .C) (𝓣 .Λ) bs (c .h) is ts r v is′ (lift (c .h) (given c) (new .get r) (ans .get r) e))))

@@ -9,7 +9,7 @@ use lib.Dec.{leb}
 use lib.ListN.{length, take, drop, replicate, length-append}
 use borrow.Author.Tests.{le-leb, lt-leb}
 use Rattle.rules.specs.Basics.{Result, accept, refuse, _>>=_, unless}
-use Rattle.rules.specs.Values.{Pair, noContext}
+use Rattle.rules.specs.Values.{Pair, noContext, Binding}
 use Rattle.rules.specs.Numbers.{number}
 use Rattle.rules.specs.Tables.{Tables}
 use Rattle.rules.specs.Graph.{Graph}
@@ -21,10 +21,11 @@ use Rattle.keypairs.specs.declared.state.State.{State}
 use Rattle.keyloop.specs.declared.key.InputKeyResult.{InputKeyResult}
 use Rattle.keyvalues.specs.View.{outcome}
 use Rattle.keytables.specs.View.{blocks}
+use Rattle.keptcalls.specs.View.{machineWith}
 use Rattle.keypairs.specs.View.{pairsOf, stateOf, trackerOf}
 use Rattle.keyloop.specs.View.{keyOf}
 use Rattle.mapfile.specs.declared.play.RunResult.the-variants.{Wrote, Refused}
-use Rattle.mapfile.specs.View.{laid, machineBy, ranOf, Ends}
+use Rattle.mapfile.specs.View.{laid, ranOf, Ends}
 use Rattle.mapfile.proofs.Writing.{laid-laid}
 use Rattle.mapfile.proofs.PairBytes.{pairs-append}
 use Rattle.mapparts.proofs.KeyBytes.{key-first, keys-none, key-bad}
@@ -58,15 +59,15 @@ fresh-is t q = refl
 
 -- ---- playing
 
-module _ (g : Graph) (t : Tables) (budget room : ℕ) (keys out₀ : List ℕ) where
+module _ (g : Graph) (cs : List Binding) (t : Tables) (budget room : ℕ) (keys out₀ : List ℕ) where
   abbrev whole : List ℕ → Result (List Pair)
-  whole ks₀ = playKeys budget room ks₀ (machineBy g (fresh graphKind t .state)) []
+  whole ks₀ = playKeys budget room ks₀ (machineWith g cs (fresh graphKind t .state)) []
 
   pub record Playing (ks₀ : List ℕ) (at written : ℕ) (x : key.State ℕ) (out : List ℕ) : Type 0 where
     pub ks : List ℕ
     pub ps : List Pair
     pub left : readKeys (drop at keys) ≡ accept ks
-    pub same : playKeys budget room ks (machineBy g x) ps ≡ whole ks₀
+    pub same : playKeys budget room ks (machineWith g cs x) ps ≡ whole ks₀
     pub place : written ≡ length (pairBytes ps)
     pub bytes : out ≡ laid 0 (pairBytes ps) out₀
 
@@ -76,7 +77,7 @@ module _ (g : Graph) (t : Tables) (budget room : ℕ) (keys out₀ : List ℕ) w
     ks = ks₀;
     ps = [];
     left = h;
-    same = ap (λ x. playKeys budget room ks₀ (machineBy g x) []) (ap (λ s. stateOf s t q (replicate 520 0) (take (s .trailed) tr)) e ∙ fresh-is t q);
+    same = ap (λ x. playKeys budget room ks₀ (machineWith g cs x) []) (ap (λ s. stateOf s t q (replicate 520 0) (take (s .trailed) tr)) e ∙ fresh-is t q);
     place = refl;
     bytes = refl;
   }
@@ -84,7 +85,7 @@ module _ (g : Graph) (t : Tables) (budget room : ℕ) (keys out₀ : List ℕ) w
   module _ (ks₀ : List ℕ) (at written : ℕ) (x : key.State ℕ) (out : List ℕ) (P : Playing ks₀ at written x out) where
     pub played-all : length keys ≤ at → Ends (whole ks₀) (Wrote written) out₀ out
     unfolding playKeys
-    played-all h = ends-written (whole ks₀) out₀ out (P .ps) written (sym (P .same) ∙ ap (λ ks. playKeys budget room ks (machineBy g x) (P .ps)) none) (P .place) (P .bytes)
+    played-all h = ends-written (whole ks₀) out₀ out (P .ps) written (sym (P .same) ∙ ap (λ ks. playKeys budget room ks (machineWith g cs x) (P .ps)) none) (P .place) (P .bytes)
       where
         none : P .ks ≡ []
         none = let e : accept (P .ks) ≡ accept [] = sym (P .left) ∙ keys-none keys at h in cc
@@ -109,13 +110,13 @@ module _ (g : Graph) (t : Tables) (budget room : ℕ) (keys out₀ : List ℕ) w
 
       -- what is come to after the key, in the definition's words
       abbrev after : Result (key.State ℕ) → Result (List Pair)
-      after m = m >>= λ m. unless (leb (length (pairBytes (P .ps ++ m .shared .queue))) room) 10 (playKeys budget room rest (emptied (machineBy g x) m) (P .ps ++ m .shared .queue))
+      after m = m >>= λ m. unless (leb (length (pairBytes (P .ps ++ m .shared .queue))) room) 10 (playKeys budget room rest (emptied (machineWith g cs x) m) (P .ps ++ m .shared .queue))
 
       turned : after (outcome (r .refusal) y) ≡ whole ks₀
       unfolding playKeys key-call
       turned =
           ap (λ k. after (k .result)) (e ∙ ap (λ n. inputKey n (record { key = v; budget = budget }) x) en)
-          ∙ ap (λ ks. playKeys budget room ks (machineBy g x) (P .ps)) (key-first keys at here v next (P .ks) num (P .left) .2)
+          ∙ ap (λ ks. playKeys budget room ks (machineWith g cs x) (P .ps)) (key-first keys at here v next (P .ks) num (P .left) .2)
           ∙ P .same
 
       long : length (pairBytes (P .ps ++ Q)) ≡ written + length (pairBytes Q)
@@ -136,7 +137,7 @@ module _ (g : Graph) (t : Tables) (budget room : ℕ) (keys out₀ : List ℕ) w
       pub key-full : (out₁ : List ℕ) → r .refusal ≡ 0 → room < written + length (pairBytes Q) → Ends (whole ks₀) (Refused 10) out₀ out₁
       key-full out₁ h l =
           ends-refused (whole ks₀) out₀ out₁ 10
-          (sym (accepted h) ∙ ap (λ b. unless b 10 (playKeys budget room rest (emptied (machineBy g x) y) (P .ps ++ Q))) (lt-leb (length (pairBytes (P .ps ++ Q))) room (omega (arith, long))))
+          (sym (accepted h) ∙ ap (λ b. unless b 10 (playKeys budget room rest (emptied (machineWith g cs x) y) (P .ps ++ Q))) (lt-leb (length (pairBytes (P .ps ++ Q))) room (omega (arith, long))))
 
       pub key-played : (out₁ : List ℕ) (w : ℕ) → r .refusal ≡ 0 → written + length (pairBytes Q) ≤ room → room ≤ length out₀ → w ≡ written + length (pairBytes Q) → out₁ ≡ laid written (pairBytes Q) out
           → Playing ks₀ next w (stateOf (none-queued (r .state)) t q sq (take (r .state .trailed) tr)) out₁
@@ -144,7 +145,7 @@ module _ (g : Graph) (t : Tables) (budget room : ℕ) (keys out₀ : List ℕ) w
         ks = rest;
         ps = P .ps ++ Q;
         left = key-first keys at here v next (P .ks) num (P .left) .1;
-        same = ap (λ b. unless b 10 (playKeys budget room rest (emptied (machineBy g x) y) (P .ps ++ Q))) (sym (le-leb (length (pairBytes (P .ps ++ Q))) room (omega (arith, long)))) ∙ accepted h;
+        same = ap (λ b. unless b 10 (playKeys budget room rest (emptied (machineWith g cs x) y) (P .ps ++ Q))) (sym (le-leb (length (pairBytes (P .ps ++ Q))) room (omega (arith, long)))) ∙ accepted h;
         place = hw ∙ sym long;
         bytes = ho ∙ laid-behind;
       }

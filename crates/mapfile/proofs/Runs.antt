@@ -49,7 +49,7 @@ front : (bs out : List ℕ) → laid 0 bs out ≡ bs ++ drop (length bs) out
 unfolding laid
 front bs out = ap (λ n. bs ++ drop n out) (zero-add (length bs))
 
-pub written-ends : (x : Result (List Pair)) (n : ℕ) (out out₁ : List ℕ) → Ends x (Wrote n) out out₁ → _≡_ {A = ℕ × List ℕ} (n * 32, out₁) (answered out x)
+pub written-ends : (x : Result (List Pair)) (n : ℕ) (out out₁ : List ℕ) → Ends x (Wrote n) out out₁ → _≡_ {A = ℕ × List ℕ} (n * 32, out₁) (answered pairBytes out x)
 unfolding codeOf outputOf
 written-ends (accept ps) n out out₁ h =
     ap₂ (λ (k : ℕ) (o : List ℕ). (k, o)) (ap (λ k. k * 32) (same (h .told))) (h .kept ps refl ∙ front (pairBytes ps) out)
@@ -61,7 +61,7 @@ written-ends (refuse m) n out out₁ h = absurd (never (h .told))
     never : Wrote n ≡ Refused m → ⊥
     never e = let z : _≡_ {A = ℕ} 0 1 = cc in omega arith
 
-pub refused-ends : (x : Result (List Pair)) (n : ℕ) (out out₁ out₂ : List ℕ) → Ends x (Refused n) out out₁ → out₂ ≡ replicate (length out) 0 ++ drop (length out) out₁ → length out₁ ≡ length out → _≡_ {A = ℕ × List ℕ} (n, out₂) (answered out x)
+pub refused-ends : (x : Result (List Pair)) (n : ℕ) (out out₁ out₂ : List ℕ) → Ends x (Refused n) out out₁ → out₂ ≡ replicate (length out) 0 ++ drop (length out) out₁ → length out₁ ≡ length out → _≡_ {A = ℕ × List ℕ} (n, out₂) (answered pairBytes out x)
 unfolding codeOf outputOf
 refused-ends (accept ps) n out out₁ out₂ h e l = absurd (never (h .told))
   where

@@ -1,23 +1,24 @@
 -- What the answers of the file's functions mean, in the values of the rules.
 use Prim.Native.Nat.{ℕ, _+_, _≤_}
 use mathlib.Core.Path.{_≡_}
-use mathlib.Core.List.{List, _++_}
+use mathlib.Core.Bool.{Bool, true, false}
+use mathlib.Core.List.{List, [], _∷_, _++_}
+use lib.Dec.{leb}
 use lib.ListN.{length, take, drop}
-use Rattle.rules.specs.Basics.{Result, accept, refuse, _>>=_}
+use Rattle.rules.specs.Basics.{Result, accept, refuse, _>>=_, if_then_else_}
 use Rattle.rules.specs.Values.{Pair}
 use Rattle.rules.specs.Numbers.{bytesOf}
-use Rattle.rules.specs.MapFile.{Reader, thenRead, lifted, readBinding, atEnd}
+use Rattle.rules.specs.MapFile.{Reader, thenRead, lifted, readBinding}
 use Rattle.rules.specs.Run.{pairBytes}
-use Rattle.rules.specs.Graph.{Graph}
-use Rattle.rules.specs.KeyLoop.{State}
 use Rattle.rules.specs.Calls.{Machine, graphKind, fresh, bind}
 use Rattle.keyvalues.specs.View.{resultBy}
-use Rattle.keyparts.specs.View.{graphOf}
 use Rattle.keytables.specs.View.{tablesIn}
-use Rattle.mapfile.specs.declared.bind.BindResult.{BindResult}
+use Rattle.keybind.specs.View.{mapWith}
+use Rattle.mapfile.specs.declared.bind.BoundRead.{BoundRead}
 use Rattle.mapfile.specs.declared.map.MapRead.{MapRead}
 use Rattle.mapfile.specs.declared.play.RunResult.{RunResult}
 use Rattle.mapfile.specs.declared.play.RunResult.the-variants.{Wrote, Refused}
+use Rattle.mapfile.specs.declared.write.Pen.{Pen}
 
 -- ---- reading
 
@@ -27,26 +28,17 @@ pub record Comes {A : Type 0} (x : Result (List ℕ)) (r : Reader A) (y : Result
 
 -- ---- the map
 
-abbrev pub machineBy : Graph → State ℕ → Machine graphKind
-machineBy g x = record { bindings = g; state = x }
-
 -- a binding, which is called after its last number
 abbrev pub bindNext : Machine graphKind → Reader (Machine graphKind)
 bindNext m = λ bs. thenRead (readBinding bs) (λ x. lifted (bind graphKind x m))
 
--- a binding that stands alone: it is read with nothing after it, and then called
-abbrev pub bindAlone : Machine graphKind → List ℕ → Result (Machine graphKind)
-bindAlone m bs = do
-  x ← atEnd (readBinding bs)
-  bind graphKind x m
-
 -- a machine and the bytes that are left, or the refusal
-abbrev pub boundOf : List ℕ → BindResult → Machine graphKind → Result (Machine graphKind × List ℕ)
+abbrev pub boundOf : List ℕ → BoundRead → Machine graphKind → Result (Machine graphKind × List ℕ)
 boundOf s r m = resultBy (r .answer) (m, drop (r .at) s)
 
--- the fresh machine with the tables, over the graph that was read
-abbrev pub mapOf : MapRead → Machine graphKind
-mapOf r = machineBy (graphOf (r .graph)) (fresh graphKind (tablesIn (r .tables .words)) .state)
+-- the fresh machine with the tables, over the graph that was read and the calls that were kept
+abbrev pub mapOf : List ℕ → MapRead → Machine graphKind
+mapOf ws r = mapWith ws (r .map) (fresh graphKind (tablesIn (r .map .tables .words)) .state)
 
 -- ---- writing
 
@@ -57,6 +49,39 @@ bytesOfPair p = bytesOf (p .action) ++ bytesOf (p .context .count) ++ bytesOf (p
 -- the bytes in the place of those that stood there
 unfoldable pub laid : ℕ → List ℕ → List ℕ → List ℕ
 laid at bs out = take at out ++ bs ++ drop (at + length bs) out
+
+-- ---- the pen
+
+-- an output, how far it is written, and whether a number did not fit
+pub record Page : Type 0 where
+  pub at : ℕ
+  pub full : Bool
+  pub out : List ℕ
+
+abbrev pub page : ℕ → Bool → List ℕ → Page
+page at full out = record { at = at; full = full; out = out }
+
+abbrev pub pageOf : Pen → List ℕ → Page
+pageOf p out = page (p .at) (p .full) out
+
+-- bytes at the place, if they fit
+unfoldable pub putBytes : List ℕ → Page → Page
+putBytes bs p =
+    if leb (p .at + length bs) (length (p .out))
+    then page (p .at + length bs) false (laid (p .at) bs (p .out))
+    else page (p .at) true (p .out)
+
+-- a number at the place: one that does not fit makes the page full, and a full page stays
+unfoldable pub put : ℕ → Page → Page
+put n p = if p .full then p else putBytes (bytesOf n) p
+
+unfoldable pub putAll : List ℕ → Page → Page
+putAll [] p = p
+putAll (n ∷ ns) p = putAll ns (put n p)
+
+-- the numbers, put one after another from p on, come to q
+pub record Puts (ns : List ℕ) (p q : Page) : Type 0 where
+  pub is : q ≡ putAll ns p
 
 -- ---- the run
 

@@ -14,9 +14,9 @@ fn pair_size(word: u64) -> usize
 {
     let p = Pair::unpack(word);
     let x = p.context;
-    let a = write::size_of(p.action);
-    let b = write::size_of(x.count);
-    let c = write::size_of(x.mark);
+    let a = write::size_of(p.action as u32);
+    let b = write::size_of(x.count as u32);
+    let c = write::size_of(x.mark as u32);
     a + b + c
 }
 
@@ -42,12 +42,12 @@ fn store_pair(out: &mut [u8], at: usize, word: u64) -> usize
 {
     let p = Pair::unpack(word);
     let x = p.context;
-    let b = at + write::size_of(p.action);
-    let c = b + write::size_of(x.count);
-    let d = c + write::size_of(x.mark);
-    write::store(out, at, p.action);
-    write::store(out, b, x.count);
-    write::store(out, c, x.mark);
+    let b = at + write::size_of(p.action as u32);
+    let c = b + write::size_of(x.count as u32);
+    let d = c + write::size_of(x.mark as u32);
+    write::store(out, at, p.action as u32);
+    write::store(out, b, x.count as u32);
+    write::store(out, c, x.mark as u32);
     d
 }
 

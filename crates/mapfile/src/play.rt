@@ -2,6 +2,7 @@
 // a key copies no map.
 use crate::map;
 use crate::pairs;
+use keptcalls::call::BindingCall;
 use keyloop::key;
 use keypairs::pair::Pair;
 use keypairs::state::State;
@@ -20,12 +21,14 @@ ghost use mathlib.Core.List.{List, []};
 ghost use Prim.Native.Nat.{ℕ, _≤_, min};
 ghost use lib.ListN.{length};
 ghost use Rattle.rules.specs.Basics.{accept};
+ghost use Rattle.rules.specs.Values.{Binding};
 ghost use Rattle.rules.specs.Calls.{graphKind, graphNavigator, fresh};
 ghost use Rattle.rules.specs.Run.{readKeys, playKeys, run};
 ghost use Rattle.keyparts.specs.View.{graphIn};
 ghost use Rattle.keytables.specs.View.{tablesIn};
+ghost use Rattle.keptcalls.specs.View.{machineWith};
 ghost use Rattle.keyloop.specs.View.{linkNavigator};
-ghost use Rattle.mapfile.specs.View.{machineBy, Within, Ends};
+ghost use Rattle.mapfile.specs.View.{Within, Ends};
 
 // How many bytes were written, or the number of the refusal.
 pub enum RunResult {
@@ -47,7 +50,7 @@ fn play_keys<'a>(
     requires { ⌜ (length (now words) ≡ 4128) × (length (now links) ≡ 2304) × (length (now tables) ≡ 131) × (room ≤ length (now out)) ⌝ }
     requires { ⌜ linkNavigator (now words) counts (now links) ≡ graphNavigator (graphIn (now words) counts) ⌝ }
     ensures { λ r. ⌜ Within room r ⌝ }
-    ensures { λ r. ⌜ ((ks : List ℕ) → readKeys (now (keys .entry)) ≡ accept ks → Ends (playKeys budget room ks (machineBy (graphIn (now (words .entry)) counts) (fresh graphKind (tablesIn (now (tables .entry))) .state)) []) r (now (out .entry)) (now (out .exit))) ⌝ }
+    ensures { λ r. ⌜ ((cs : List Binding) (ks : List ℕ) → readKeys (now (keys .entry)) ≡ accept ks → Ends (playKeys budget room ks (machineWith (graphIn (now (words .entry)) counts) cs (fresh graphKind (tablesIn (now (tables .entry))) .state)) []) r (now (out .entry)) (now (out .exit))) ⌝ }
 {
     let mut queue = [0u64; Pair::QUEUE as usize];
     let mut sequences = [0u64; SequenceTracker::ALL];
@@ -90,27 +93,29 @@ fn play_keys<'a>(
     RunResult::Wrote(written)
 }
 
-// The map is read whole before the keys, and all keys before the first is tried; one index serves them all.
+// The map is read whole before the keys, and all keys before the first is tried; one index serves them all. The calls that the
+// reader keeps are of no use here.
 pub(crate) fn play(map: &[u8], keys: &[u8], out: &mut [u8], room: usize, budget: u16) -> RunResult
     requires { ⌜ room ≤ length (now out) ⌝ }
     ensures { λ r. ⌜ Within room r ⌝ }
     ensures { λ r. ⌜ ((lent : ℕ) → room ≡ min lent 65536 → Ends (run (now (map .entry)) (now (keys .entry)) budget lent) r (now (out .entry)) (now (out .exit))) ⌝ }
 {
-    let m = map::read_map(map);
+    let mut kept = [0u64; BindingCall::ALL_WORDS];
+    let m = map::read_map(map, &mut kept);
     let answer = m.answer;
     match answer {
         Answer::Refused(n) => return RunResult::Refused(n),
         Answer::Accepted => {}
     }
     if keys::check_keys(keys) {
-        let counts = m.graph.counts;
-        let index = layout::index_of(&m.graph.words, counts.edges);
+        let counts = m.map.graph.counts;
+        let index = layout::index_of(&m.map.graph.words, counts.edges);
         return play_keys(
             keys,
-            &m.graph.words,
+            &m.map.graph.words,
             counts,
             &index.links,
-            &m.tables.words,
+            &m.map.tables.words,
             out,
             room,
             budget,

@@ -10,7 +10,8 @@ use Rattle.rules.specs.Values.{Event, Repeat, Part, Step, Binding, Maps, Prefix
 use Rattle.rules.specs.Tables.{ClassEntry, ModeEntry, Rule, Tables}
 use Rattle.rules.specs.Numbers.{number}
 use Rattle.rules.specs.MapFile.{Reader, _>>=_, give, such, upTo, optionalMark, readOptionalMode, readActions, repeatBy, eventBy, readPart, readStep, bindingBy, readBinding, readClass, readMode, readRule, listOf, readTables}
-use Rattle.mapparts.specs.View.{Reads, readMark, readRepeat, readEvent, callOf}
+use Rattle.keyvalues.specs.View.{callOf}
+use Rattle.mapparts.specs.View.{Reads, readMark, readRepeat, readEvent}
 use Rattle.mapparts.proofs.Reading.{then, gives, in-one}
 
 -- ---- parts

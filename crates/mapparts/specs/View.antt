@@ -1,19 +1,18 @@
 -- What the answers of the file's readers mean, in the values of the rules.
-use Prim.Native.Nat.{ℕ, zero, suc}
+use Prim.Native.Nat.{ℕ}
 use mathlib.Core.Path.{_≡_}
 use mathlib.Core.Bool.{Bool, true, false}
-use mathlib.Core.Option.{Option, none, some}
+use mathlib.Core.Option.{Option}
 use mathlib.Core.List.{List}
 use lib.ListN.{drop}
 use Rattle.rules.specs.Basics.{Result, accept, refuse, _>>=_}
-use Rattle.rules.specs.Values.{Event, Repeat, Part, Step, Binding, Maps, Prefixes}
+use Rattle.rules.specs.Values.{Event, Repeat}
 use Rattle.rules.specs.Numbers.{number}
 use Rattle.rules.specs.MapFile.{Reader, thenRead, give, upTo, optionalMark, repeatBy, eventBy}
-use Rattle.keyvalues.specs.View.{outcome, wholePath, wholeStep}
+use Rattle.keyvalues.specs.View.{outcome}
 use Rattle.mapparts.specs.declared.number.Read.{Read}
 use Rattle.mapparts.specs.declared.number.Read.the-variants.{Number, Bad}
 use Rattle.mapparts.specs.declared.place.FilePlace.{FilePlace}
-use Rattle.mapparts.specs.declared.binding.BindingRead.{BindingRead}
 
 -- a number and the bytes from the place after it on, or 9
 abbrev pub readOf : List ℕ → Read → Result (ℕ × List ℕ)
@@ -42,17 +41,6 @@ readRepeat = λ bs. thenRead (upTo 2 bs) repeatBy
 
 abbrev pub readEvent : Reader Event
 readEvent = λ bs. thenRead (upTo 3 bs) eventBy
-
--- ---- bindings
-
--- the call of a kind: a prefix without a step leaves the step out
-unfoldable pub callOf : ℕ → ℕ → List Part → Step → Binding
-callOf zero mode path st = Maps mode path st
-callOf (suc zero) mode path st = Prefixes mode path none
-callOf (suc (suc k)) mode path st = Prefixes mode path (some st)
-
-abbrev pub bindingOf : BindingRead → Binding
-bindingOf r = callOf (r .kind) (r .mode) (wholePath (r .path)) (wholeStep (r .step))
 
 -- ---- keys
 

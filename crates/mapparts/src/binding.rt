@@ -2,24 +2,21 @@
 use crate::part;
 use crate::place::FilePlace;
 use crate::step;
-use keyvalues::path::EdgePath;
+use keptcalls::call::BindingCall;
 use keyvalues::step::Step;
 use keyvalues::tables::TableWords;
 ghost use Rattle.rules.specs.MapFile.{readBinding};
-ghost use Rattle.mapparts.specs.View.{placeOf, Reads, bindingOf};
+ghost use Rattle.keptcalls.specs.View.{bindingOf};
+ghost use Rattle.mapparts.specs.View.{placeOf, Reads};
 
-// A mapping (kind 0), a prefix (1) or a prefix with a step (2).
 pub struct BindingRead {
-    pub kind: u16,
-    pub mode: u16,
-    pub path: EdgePath,
-    pub step: Step,
+    pub call: BindingCall,
     pub place: FilePlace,
 }
 
 // Kind, mode, path, and the step for kinds 0 and 2.
 pub fn read_binding(s: &[u8], from: FilePlace) -> BindingRead
-    ensures { λ r. ⌜ Reads (placeOf (now (s .entry)) from) readBinding (bindingOf r) (placeOf (now (s .entry)) (r .place)) ⌝ }
+    ensures { λ r. ⌜ Reads (placeOf (now (s .entry)) from) readBinding (bindingOf (r .call)) (placeOf (now (s .entry)) (r .place)) ⌝ }
 {
     let kind = from.up_to(s, 2);
     let a = kind.place;
@@ -31,10 +28,12 @@ pub fn read_binding(s: &[u8], from: FilePlace) -> BindingRead
     if kind.value == 1 {
         let none = Step::default();
         return BindingRead {
-            kind: 1,
-            mode: mode.value,
-            path: path,
-            step: none,
+            call: BindingCall {
+                kind: 1,
+                mode: mode.value,
+                path: path,
+                step: none,
+            },
             place: c,
         };
     }
@@ -42,10 +41,12 @@ pub fn read_binding(s: &[u8], from: FilePlace) -> BindingRead
     let d = read.place;
     let does = read.step;
     BindingRead {
-        kind: kind.value,
-        mode: mode.value,
-        path: path,
-        step: does,
+        call: BindingCall {
+            kind: kind.value,
+            mode: mode.value,
+            path: path,
+            step: does,
+        },
         place: d,
     }
 }

@@ -62,14 +62,14 @@ input-fits input =
 
 -- ---- what a run answers
 
-module _ (map keys lent out : List ℕ) (budget r : ℕ) (wide : length lent ≡ 65536) (e : _≡_ {A = ℕ × List ℕ} (r, out) (answered lent (run map keys budget (length lent)))) where
+module _ (map keys lent out : List ℕ) (budget r : ℕ) (wide : length lent ≡ 65536) (e : _≡_ {A = ℕ × List ℕ} (r, out) (answered pairBytes lent (run map keys budget (length lent)))) where
   abbrev X : Result (List Pair)
   X = run map keys budget 65536
 
-  told : _≡_ {A = ℕ × List ℕ} (r, out) (answered lent X)
-  told = e ∙ ap (λ n. answered lent (run map keys budget n)) wide
+  told : _≡_ {A = ℕ × List ℕ} (r, out) (answered pairBytes lent X)
+  told = e ∙ ap (λ n. answered pairBytes lent (run map keys budget n)) wide
 
-  code : r ≡ codeOf X
+  code : r ≡ codeOf pairBytes X
   code = ap (λ (a : ℕ × List ℕ). a .0) told
 
   size : (x : Result (List Pair)) → X ≡ x → r / 32 ≡ lengthOf x
@@ -79,7 +79,7 @@ module _ (map keys lent out : List ℕ) (budget r : ℕ) (wide : length lent ≡
   number-of x h = ap (λ n. n % 32) code ∙ code-splits map keys budget 65536 .1 ∙ ap refusalOf h
 
   positive : (n : ℕ) → X ≡ refuse n → 0 < n
-  positive n h = go (subst (Always (ltb 0) Whatever) h (run-always tt tt tt tt tt tt tt tt tt tt map keys budget 65536))
+  positive n h = go (subst (Always (ltb 0) Whatever) h (run-always tt tt tt tt tt tt tt tt tt tt tt map keys budget 65536))
     where
       go : Always {A = List Pair} (ltb 0) Whatever (refuse n) → 0 < n
       go (refuses m t) = ltb→lt 0 n t
@@ -111,7 +111,7 @@ module _ (map keys lent out : List ℕ) (budget r : ℕ) (wide : length lent ≡
         pairs = ps;
         came = k;
         fits = omega (arith, size (accept ps) k, room ps (subst Fitting k (run-fits map keys budget)));
-        front = ap (take (r / 32)) (ap (λ (a : ℕ × List ℕ). a .1) told ∙ ap (outputOf lent) k) ∙ take-at (pairBytes ps) (drop (length (pairBytes ps)) lent) (r / 32) (sym (size (accept ps) k));
+        front = ap (take (r / 32)) (ap (λ (a : ℕ × List ℕ). a .1) told ∙ ap (outputOf pairBytes lent) k) ∙ take-at (pairBytes ps) (drop (length (pairBytes ps)) lent) (r / 32) (sym (size (accept ps) k));
       }
       go (refuse n) k = absurd (omega (arith, positive n k, number-of (refuse n) k))
 

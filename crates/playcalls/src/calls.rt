@@ -1,11 +1,18 @@
 // The calls, one after another, each on the machine that the one before left.
+use crate::file;
 use crate::parts;
 use crate::print;
+use keptcalls::call::BindingCall;
+use keybind::map;
+use keybind::map::MapResult;
 use keygraph::step::Step;
 use keymachine::context::Context;
 use keymachine::context::Override;
+use keymachine::live::Live;
 use keymachine::machine::ModalMachine;
 use mapparts::place::FilePlace;
+ghost use mathlib.Core.Path.{_≡_};
+ghost use lib.ListN.{length};
 
 // The machine, and the place after the call.
 struct Played {
@@ -32,8 +39,32 @@ fn unknown(machine: ModalMachine, place: FilePlace) -> Played {
     }
 }
 
+// The machine that a binding call leaves, after the line of its answer.
+fn bound(r: MapResult, live: Live, place: FilePlace) -> Played {
+    let answer = r.answer;
+    let map = r.map;
+    let left = ModalMachine {
+        map: map,
+        live: live,
+    };
+    print::settled(answer);
+    end_line(left);
+    Played {
+        machine: left,
+        place: place,
+    }
+}
+
 // Mode, path and step.
-fn play_map(s: &[u8], from: FilePlace, machine: ModalMachine) -> Played {
+fn play_map(
+    s: &[u8],
+    kept: &mut [u64; BindingCall::ALL_WORDS],
+    from: FilePlace,
+    machine: ModalMachine,
+) -> Played
+    requires { ⌜ length (now kept) ≡ 18432 ⌝ }
+    ensures { λ r. ⌜ length (now (kept .exit)) ≡ 18432 ⌝ }
+{
     let mode = from.number(s);
     let a = mode.place;
     let path = parts::read_path(s, a);
@@ -50,21 +81,24 @@ fn play_map(s: &[u8], from: FilePlace, machine: ModalMachine) -> Played {
         if step.known {
             let to = path.path;
             let does = step.step;
-            let r = machine.add_mapping(mode.value, to, does);
-            let left = r.machine;
-            let answer = r.answer;
-            print::settled(answer);
-            end_line(left);
-            return Played {
-                machine: left,
-                place: c,
-            };
+            let before = machine.map;
+            let live = machine.live;
+            let r = map::add_mapping(kept, before, mode.value, to, does);
+            return bound(r, live, c);
         }
     }
     unknown(machine, c)
 }
 
-fn play_prefix(s: &[u8], from: FilePlace, machine: ModalMachine) -> Played {
+fn play_prefix(
+    s: &[u8],
+    kept: &mut [u64; BindingCall::ALL_WORDS],
+    from: FilePlace,
+    machine: ModalMachine,
+) -> Played
+    requires { ⌜ length (now kept) ≡ 18432 ⌝ }
+    ensures { λ r. ⌜ length (now (kept .exit)) ≡ 18432 ⌝ }
+{
     let mode = from.number(s);
     let a = mode.place;
     let path = parts::read_path(s, a);
@@ -78,20 +112,23 @@ fn play_prefix(s: &[u8], from: FilePlace, machine: ModalMachine) -> Played {
     if path.known {
         let to = path.path;
         let none = Step::default();
-        let r = machine.add_prefix(mode.value, to, false, none);
-        let left = r.machine;
-        let answer = r.answer;
-        print::settled(answer);
-        end_line(left);
-        return Played {
-            machine: left,
-            place: c,
-        };
+        let before = machine.map;
+        let live = machine.live;
+        let r = map::add_prefix(kept, before, mode.value, to, false, none);
+        return bound(r, live, c);
     }
     unknown(machine, c)
 }
 
-fn play_prefix_step(s: &[u8], from: FilePlace, machine: ModalMachine) -> Played {
+fn play_prefix_step(
+    s: &[u8],
+    kept: &mut [u64; BindingCall::ALL_WORDS],
+    from: FilePlace,
+    machine: ModalMachine,
+) -> Played
+    requires { ⌜ length (now kept) ≡ 18432 ⌝ }
+    ensures { λ r. ⌜ length (now (kept .exit)) ≡ 18432 ⌝ }
+{
     let mode = from.number(s);
     let a = mode.place;
     let path = parts::read_path(s, a);
@@ -108,15 +145,10 @@ fn play_prefix_step(s: &[u8], from: FilePlace, machine: ModalMachine) -> Played 
         if step.known {
             let to = path.path;
             let does = step.step;
-            let r = machine.add_prefix(mode.value, to, true, does);
-            let left = r.machine;
-            let answer = r.answer;
-            print::settled(answer);
-            end_line(left);
-            return Played {
-                machine: left,
-                place: c,
-            };
+            let before = machine.map;
+            let live = machine.live;
+            let r = map::add_prefix(kept, before, mode.value, to, true, does);
+            return bound(r, live, c);
         }
     }
     unknown(machine, c)
@@ -254,7 +286,41 @@ fn play_hint(from: FilePlace, machine: ModalMachine) -> Played {
     }
 }
 
-fn play_call(s: &[u8], from: FilePlace, machine: ModalMachine) -> Played {
+// The room: how many bytes are lent to the writer.
+fn play_write(
+    s: &[u8],
+    kept: &[u64; BindingCall::ALL_WORDS],
+    from: FilePlace,
+    machine: ModalMachine,
+) -> Played
+    requires { ⌜ length (now kept) ≡ 18432 ⌝ }
+{
+    let room = from.number(s);
+    let c = room.place;
+    if c.refusal != 0 {
+        return Played {
+            machine: machine,
+            place: c,
+        };
+    }
+    let tables = machine.map.tables;
+    file::print_file(kept, machine.map.kept, tables, room.value);
+    end_line(machine);
+    Played {
+        machine: machine,
+        place: c,
+    }
+}
+
+fn play_call(
+    s: &[u8],
+    kept: &mut [u64; BindingCall::ALL_WORDS],
+    from: FilePlace,
+    machine: ModalMachine,
+) -> Played
+    requires { ⌜ length (now kept) ≡ 18432 ⌝ }
+    ensures { λ r. ⌜ length (now (kept .exit)) ≡ 18432 ⌝ }
+{
     let kind = from.number(s);
     let c = kind.place;
     if c.refusal != 0 {
@@ -265,15 +331,16 @@ fn play_call(s: &[u8], from: FilePlace, machine: ModalMachine) -> Played {
     }
     let which = kind.value;
     match which {
-        0 => play_map(s, c, machine),
-        1 => play_prefix(s, c, machine),
-        2 => play_prefix_step(s, c, machine),
+        0 => play_map(s, kept, c, machine),
+        1 => play_prefix(s, kept, c, machine),
+        2 => play_prefix_step(s, kept, c, machine),
         3 => play_key(s, c, machine),
         4 => play_pop(c, machine),
         5 => play_repeat(s, c, machine),
         6 => play_reset(c, machine),
         7 => play_find(s, c, machine),
         8 => play_hint(c, machine),
+        9 => play_write(s, kept, c, machine),
         _ => Played {
             machine: machine,
             place: FilePlace {
@@ -286,6 +353,7 @@ fn play_call(s: &[u8], from: FilePlace, machine: ModalMachine) -> Played {
 
 // To the end of the input, or to the first call that is malformed.
 pub fn play_calls(s: &[u8], from: FilePlace, start: ModalMachine) {
+    let mut kept = [0u64; BindingCall::ALL_WORDS];
     let mut machine = start;
     let mut at = from;
     let mut left = s.len();
@@ -293,7 +361,7 @@ pub fn play_calls(s: &[u8], from: FilePlace, start: ModalMachine) {
         if s.len() <= at.at {
             return;
         }
-        let r = play_call(s, at, machine);
+        let r = play_call(s, &mut kept, at, machine);
         let c = r.place;
         if c.refusal != 0 {
             print::refused_line(c.refusal);

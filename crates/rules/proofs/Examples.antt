@@ -1,20 +1,21 @@
 -- Small examples beside the table, each named after the rule that it shows, for what E1 to E10 do not reach. The answers
--- follow from document 01 and the Rust's code by hand; the theorems hold by computing them.
-use Prim.Native.Nat.{ℕ}
+-- follow from document 01, from its changes by document 02 and from the Rust's code by hand; the theorems hold by computing them.
+use Prim.Native.Nat.{ℕ, _*_}
 use mathlib.Core.Path.{_≡_, refl}
 use mathlib.Core.Bool.{true, false}
 use mathlib.Core.Option.{none, some}
 use mathlib.Core.List.{List, [], _∷_, _++_, map}
 use lib.ListN.{replicate}
-use Rattle.rules.specs.Basics.{Result, accept, refuse, open-Basics}
+use Rattle.rules.specs.Basics.{Result, accept, refuse, _>>=_, open-Basics}
 use Rattle.rules.specs.Values.{Key, Class, Any, Fallthrough, Min, Step, pair, open-Values}
-use Rattle.rules.specs.Tables.{noEntry, Tables, open-Tables}
+use Rattle.rules.specs.Tables.{noEntry, Tables, noTables, open-Tables}
 use Rattle.rules.specs.Graph.{open-Graph}
 use Rattle.rules.specs.KeyLoop.{open-KeyLoop}
-use Rattle.rules.specs.Calls.{Open, Map, Prefix, Pop, Repeats, Reset, Accepted, Refused, Nothing, PressRefused, open-Calls}
+use Rattle.rules.specs.Calls.{Call, Open, Map, Prefix, Pop, Repeats, Reset, Accepted, Refused, Nothing, PressRefused, graphKind, fresh, leaves, open-Calls}
 use Rattle.rules.specs.Numbers.{number, open-Numbers}
 use Rattle.rules.specs.MapFile.{readMap, open-MapFile}
-use Rattle.rules.specs.Run.{run, codeOf, outputOf, keyplay, open-Run}
+use Rattle.rules.specs.Run.{pairBytes, run, codeOf, outputOf, keyplay, open-Run}
+use Rattle.rules.specs.Writing.{fileOf, write-call, open-Writing}
 use Rattle.rules.proofs.Table.{_⇒_, once, one, two, does, key, rounds, gives, a, b, j, q, r, digits, tracking, doubles, Row, row, tryAll, stepHeld, outcome}
 
 -- ---- runs of calls
@@ -231,6 +232,31 @@ an-empty-path = row (
     ∷ Pop ⇒ gives 0 0 0
     ∷ [])
 
+-- 1,024 calls are kept: those with an empty path, and none that was refused. One more is 11, whatever it would bind, and changes
+-- nothing: a gives 1 still, and b is unmapped. 1 and 4 are met before 11. Open begins anew
+abbrev pub the-calls-that-are-kept : Row
+the-calls-that-are-kept = row (
+    Map 0 (one (Key a)) (record { flag = false; actions = 1 ∷ []; next = none; fallthrough = some 1; mark = none }) ⇒ Accepted
+    ∷ Map 16 [] (does 1) ⇒ Refused 1
+    ∷ Prefix 16 [] none ⇒ Refused 1
+    ∷ Map 0 (two (Key a) Fallthrough) (does 1) ⇒ Refused 4
+    ∷ Prefix 0 [] none ⇒ Accepted
+    ∷ replicate 1022 (Map 0 [] (does 1) ⇒ Accepted)
+    ++ (Map 0 [] (does 1) ⇒ Refused 11
+    ∷ Prefix 0 [] none ⇒ Refused 11
+    ∷ Map 0 (one (Key a)) (does 2) ⇒ Refused 11
+    ∷ Map 0 (one (Key b)) (does 3) ⇒ Refused 11
+    ∷ Map 16 [] (does 1) ⇒ Refused 1
+    ∷ Prefix 16 [] none ⇒ Refused 1
+    ∷ Map 0 (two (Key a) Fallthrough) (does 1) ⇒ Refused 4
+    ∷ key a ⇒ rounds 1
+    ∷ Pop ⇒ gives 1 0 0
+    ∷ key b ⇒ rounds 1
+    ∷ Pop ⇒ gives 0 0 0
+    ∷ Open digits ⇒ Accepted
+    ∷ Map 0 [] (does 1) ⇒ Accepted
+    ∷ []))
+
 unfoldable pub examples : List Row
 examples =
     reset-keeps-the-trail
@@ -248,6 +274,7 @@ examples =
     ∷ a-consumed-key-clears-the-trail
     ∷ a-run-step-clears-the-trail
     ∷ an-empty-path
+    ∷ the-calls-that-are-kept
     ∷ []
 
 pub examples-hold : map outcome examples ≡ examples
@@ -308,11 +335,56 @@ pub files-hold : (map (λ x. refusalOf (number (x .bytes))) numbers ≡ map (λ 
     × (run empty-map (97 ∷ 97 ∷ 0x80 ∷ []) 0 5 ≡ refuse 9)
     × (run empty-map (97 ∷ 97 ∷ 0xE1 ∷ 0x80 ∷ 0x02 ∷ []) 1 5 ≡ refuse 10)
     × (run empty-map (97 ∷ 97 ∷ 0xE1 ∷ 0x80 ∷ 0x02 ∷ []) 1 6 ≡ refuse 8)
-    × (codeOf (run empty-map (97 ∷ []) 1 5) ≡ 96)
-    × (outputOf lent (run empty-map (97 ∷ []) 1 5) ≡ 0 ∷ 0 ∷ 0 ∷ 4 ∷ 5 ∷ [])
-    × (codeOf (run empty-map (97 ∷ 97 ∷ []) 1 5) ≡ 10)
-    × (outputOf lent (run empty-map (97 ∷ 97 ∷ []) 1 5) ≡ 0 ∷ 0 ∷ 0 ∷ 0 ∷ 0 ∷ [])
+    × (codeOf pairBytes (run empty-map (97 ∷ []) 1 5) ≡ 96)
+    × (outputOf pairBytes lent (run empty-map (97 ∷ []) 1 5) ≡ 0 ∷ 0 ∷ 0 ∷ 4 ∷ 5 ∷ [])
+    × (codeOf pairBytes (run empty-map (97 ∷ 97 ∷ []) 1 5) ≡ 10)
+    × (outputOf pairBytes lent (run empty-map (97 ∷ 97 ∷ []) 1 5) ≡ 0 ∷ 0 ∷ 0 ∷ 0 ∷ 0 ∷ [])
     × (keyplay (4 ∷ empty-map) ≡ 0x61 ∷ 0x63 ∷ 0x74 ∷ 0x69 ∷ 0x6F ∷ 0x6E ∷ 0x20 ∷ 0x63 ∷ 0x6F ∷ 0x75 ∷ 0x6E ∷ 0x74 ∷ 0x20 ∷ 0x6D ∷ 0x61 ∷ 0x72 ∷ 0x6B ∷ 0x0A ∷ [])
     × (keyplay (5 ∷ empty-map) ≡ 0x72 ∷ 0x65 ∷ 0x66 ∷ 0x75 ∷ 0x73 ∷ 0x65 ∷ 0x64 ∷ 0x20 ∷ 0x39 ∷ 0x0A ∷ [])
 unfolding open-Basics open-Values open-Tables open-Graph open-KeyLoop open-Calls open-Numbers open-MapFile open-Run
 files-hold = (refl, refl, refl, refl, refl, refl, refl, refl, refl, refl, refl, refl, refl)
+
+-- ---- written maps
+
+-- Bindings are written in the order of their calls: a prefix with step is of kind 2, a mapping 0, a prefix with none 1. The two
+-- calls that are refused, with mode 16, are left out, and the one with an empty path is not
+abbrev pub some-calls : List Call
+some-calls =
+    Prefix 0 (one Any) (some (does 9))
+    ∷ Map 16 (one (Key a)) (does 1)
+    ∷ Prefix 16 [] none
+    ∷ Map 1 (one (Key b)) (does 2)
+    ∷ Prefix 0 [] none
+    ∷ []
+
+abbrev pub their-file : List ℕ
+their-file =
+    0 ∷ 0 ∷ 0 ∷ 3
+    ∷ 2 ∷ 0 ∷ 1 ∷ 0 ∷ 2 ∷ 0 ∷ 1 ∷ 9 ∷ 0 ∷ 0 ∷ 0
+    ∷ 0 ∷ 1 ∷ 1 ∷ 0 ∷ 0 ∷ 98 ∷ 0 ∷ 1 ∷ 2 ∷ 0 ∷ 0 ∷ 0
+    ∷ 1 ∷ 0 ∷ 0 ∷ []
+
+-- Maps that were read, written to an output. Of 10 bytes lent a map of 9 leaves the last as it was, and 8 are too few: they become
+-- zeros. Entering mode 0 gives action 300, which takes two bytes; of two modes both are written, the second empty, and no more
+abbrev pub a-prefix : List ℕ
+a-prefix = 0 ∷ 0 ∷ 0 ∷ 1 ∷ 1 ∷ 0 ∷ 1 ∷ 0 ∷ 2 ∷ []
+
+abbrev pub two-modes : List ℕ
+two-modes = 0 ∷ 2 ∷ 1 ∷ 0xAC ∷ 0x02 ∷ 0 ∷ 2 ∷ 0 ∷ 0 ∷ 0 ∷ 0 ∷ 0 ∷ []
+
+abbrev pub fileBy : List Call → List ℕ
+fileBy cs = fileOf graphKind (leaves graphKind (fresh graphKind noTables) cs)
+
+abbrev pub sentAs : List ℕ → List ℕ → Result (ℕ × List ℕ)
+sentAs bs out = readMap bs >>= λ s. accept (write-call graphKind s out)
+
+-- the file of calls; after open that of its tables and of the calls since; and what is sent
+pub written-hold : (fileBy [] ≡ empty-map)
+    × (fileBy some-calls ≡ their-file)
+    × (fileBy (some-calls ++ (Open digits ∷ Prefix 0 [] none ∷ [])) ≡ 1 ∷ 0 ∷ 48 ∷ 57 ∷ 0 ∷ 0 ∷ 1 ∷ 1 ∷ 0 ∷ 0 ∷ [])
+    × (sentAs a-prefix (replicate 10 7) ≡ accept (9 * 32, a-prefix ++ (7 ∷ [])))
+    × (sentAs a-prefix (replicate 9 7) ≡ accept (9 * 32, a-prefix))
+    × (sentAs a-prefix (replicate 8 7) ≡ accept (10, replicate 8 0))
+    × (sentAs two-modes (replicate 12 7) ≡ accept (12 * 32, two-modes))
+unfolding open-Basics open-Values open-Tables open-Graph open-KeyLoop open-Calls open-Numbers open-MapFile open-Run open-Writing
+written-hold = (refl, refl, refl, refl, refl, refl, refl)

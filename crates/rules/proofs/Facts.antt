@@ -1,5 +1,6 @@
 -- Facts of the rules that the documents count on, each stated first. Why they are true:
 -- one edge: only `add_edge` changes the edge table, and it replaces an edge that has the same start and event (Grown, Reached);
+-- kept calls: a binding call is kept only while fewer than 1,024 are (Reached);
 -- the stack: a round puts back at most what it took, where a key that decomposes counts for two (Rounds, Reached);
 -- popping: each pop takes the first pair; the refusals: each number stands at the one place where it is met (Grown, Rounds, Refusals).
 use Prim.Native.Nat.{ℕ, suc, _/_, _%_, _≤_, _<_}
@@ -8,10 +9,10 @@ use mathlib.Core.Path.{_≡_, refl, ap}
 use mathlib.Core.Bool.{false}
 use mathlib.Core.Option.{Option}
 use mathlib.Core.List.{List, [], _∷_, _++_, map}
-use lib.Dec.{T, eqb, ltb, ltb→lt}
+use lib.Dec.{T, eqb, leb, ltb, ltb→lt}
 use lib.ListN.{length, getD, replicate}
 use Rattle.rules.specs.Basics.{Result, accept, refuse, every, some-of}
-use Rattle.rules.specs.Values.{largest, mostTrail, Any, Part, Step, Context, Pair}
+use Rattle.rules.specs.Values.{largest, mostTrail, Any, Part, Step, Binding, Context, Pair}
 use Rattle.rules.specs.Tables.{Tables}
 use Rattle.rules.specs.Graph.{Edge, Graph}
 use Rattle.rules.specs.KeyLoop.{Shared, freshShared, withQueue, Navigator, State, at, Input, round}
@@ -19,14 +20,15 @@ use Rattle.rules.specs.Calls.{Kind, Machine, withState, navigate, graphK
 use Rattle.rules.specs.Calls.{fresh, open-with, map-call, prefix-call, key-call, repeat-call, reset-call, popped, call, history, leaves}
 use Rattle.rules.specs.MapFile.{readMap}
 use Rattle.rules.specs.Run.{pairBytes, emptied, run, codeOf}
+use Rattle.rules.specs.Writing.{writeMap, written}
 use Rattle.rules.proofs.Examples.{refusalOf}
 use Rattle.rules.proofs.Tests.{by-cases, eqb-is, T-and}
 use Rattle.rules.proofs.Runs.{saysRefused}
-use Rattle.rules.proofs.Results.{Always, accepts, refuses, value}
+use Rattle.rules.proofs.Results.{Always, accepts, refuses, Whatever, value, always-unless}
 use Rattle.rules.proofs.Grown.{single-place}
 use Rattle.rules.proofs.Weights.{Each, length-weight}
 use Rattle.rules.proofs.Rounds.{Bounded, splits}
-use Rattle.rules.proofs.Reached.{leaves-single, fresh-single, Is16, KeyIs16, begins-bounded, round-keeps, leaves-short}
+use Rattle.rules.proofs.Reached.{leaves-single, fresh-single, Is16, KeyIs16, begins-bounded, round-keeps, leaves-few, leaves-short}
 use Rattle.rules.proofs.Refusals.{open-always, key-always, repeat-always, reset-always, map-always, prefix-always, file-always, run-always}
 
 -- ---- of one start and one event a graph has at most one edge
@@ -44,6 +46,13 @@ pub one-edge : (t : Tables) (cs : List Call) → let g = madeBy t cs in (i j : �
     → edgeAt g i .from ≡ edgeAt g j .from → edgeAt g i .event ≡ edgeAt g j .event → i ≡ j
 one-edge t cs i j = single-place _ (madeBy t cs .edges) (leaves-single (fresh graphKind t) cs (fresh-single t)) i j
 
+-- ---- a machine keeps at most 1,024 binding calls
+
+-- whatever calls were made from the fresh machine
+pub kept-at-most-1024 : (𝓚 : Kind) (t : Tables) (cs : List Call) → length (leaves 𝓚 (fresh 𝓚 t) cs .kept) ≤ 1024
+unfolding fresh
+kept-at-most-1024 𝓚 t cs = leaves-few 𝓚 (fresh 𝓚 t) cs (omega arith)
+
 -- ---- the stack never exceeds 130 keys
 
 -- The loop of `input_key`, begun with keys ks in state m, comes after some rounds to keys ks₁ in state m₁. The budget only says
@@ -57,9 +66,9 @@ pub stack-from-a-trail : {P : Type 0} (nav : Navigator P) (k : ℕ) (m : State P
     → {ks : List ℕ} {m₁ : State P} → Reaches nav (k ∷ []) m ks m₁ → length ks ≤ 130
 stack-from-a-trail {P} nav k m h l e {ks} r = omega (arith, length-weight splits ks, go r .weighs)
   where
-    go : {ks₁ : List ℕ} {m₁ : State P} → Reaches nav (k ∷ []) m ks₁ m₁ → Bounded 130 mostTrail Is16 ks₁ m₁
+    go : {ks₁ : List ℕ} {m₁ : State P} → Reaches nav (k ∷ []) m ks₁ m₁ → Bounded (m .shared .tables) 130 mostTrail Is16 ks₁ m₁
     go begins = begins-bounded k m h (l, e)
-    go (goes-on {k = k₁} {ks₁ = ks₁} {m₁ = m₁} r e₁) = value (rw e₁ at (round-keeps nav k₁ ks₁ m₁ (go r)))
+    go (goes-on {k = k₁} {ks₁ = ks₁} {m₁ = m₁} r e₁) = value (rw e₁ at (round-keeps nav (m .shared .tables) k₁ ks₁ m₁ (go r)))
 
 -- calls whose keys, where they have one, are of 16 bits (`KeyIs16`) leave a trail of at most 64 keys, of 16 bits each
 pub trail-at-most-64 : (𝓚 : Kind) (t : Tables) (cs : List Call) → Each KeyIs16 cs → let tr = leaves 𝓚 (fresh 𝓚 t) cs .state .shared .trail in (length tr ≤ 64) × Each (λ x. x ≤ largest) tr
@@ -111,15 +120,15 @@ pub open-refuses : (𝓚 : Kind) (t : Tables) → RefusedAmong (1 ∷ []) (open-
 unfolding some-of
 open-refuses 𝓚 t = among _ (open-always 𝓚 tt t)
 
--- map: 1, 2, 3, 4
-pub map-refuses : (mode : ℕ) (path : List Part) (st : Step) (s : Machine graphKind) → RefusedAmong (1 ∷ 2 ∷ 3 ∷ 4 ∷ []) (map-call graphKind mode path st s)
+-- map: 1, 2, 3, 4, 11
+pub map-refuses : (mode : ℕ) (path : List Part) (st : Step) (s : Machine graphKind) → RefusedAmong (1 ∷ 2 ∷ 3 ∷ 4 ∷ 11 ∷ []) (map-call graphKind mode path st s)
 unfolding some-of
-map-refuses mode path st s = among _ (map-always tt tt tt tt (λ _. Unit {0}) (λ _ _ _ _ _. tt) mode path st s tt)
+map-refuses mode path st s = among _ (map-always tt tt tt tt tt (λ _. Unit {0}) (λ _ _ _ _ _. tt) mode path st s tt)
 
 -- prefix: the same
-pub prefix-refuses : (mode : ℕ) (path : List Part) (os : Option Step) (s : Machine graphKind) → RefusedAmong (1 ∷ 2 ∷ 3 ∷ 4 ∷ []) (prefix-call graphKind mode path os s)
+pub prefix-refuses : (mode : ℕ) (path : List Part) (os : Option Step) (s : Machine graphKind) → RefusedAmong (1 ∷ 2 ∷ 3 ∷ 4 ∷ 11 ∷ []) (prefix-call graphKind mode path os s)
 unfolding some-of
-prefix-refuses mode path os s = among _ (prefix-always tt tt tt tt (λ _. Unit {0}) (λ _ _ _ _ _. tt) mode path os s tt)
+prefix-refuses mode path os s = among _ (prefix-always tt tt tt tt tt (λ _. Unit {0}) (λ _ _ _ _ _. tt) mode path os s tt)
 
 -- a key, of any machine: 8, 6, 5, 7
 pub key-refuses : (𝓚 : Kind) (i : Input) (s : Machine 𝓚) → RefusedAmong (8 ∷ 6 ∷ 5 ∷ 7 ∷ []) (key-call 𝓚 i s .result)
@@ -146,18 +155,23 @@ pop-never-refuses 𝓚 s n = go (s .state .shared .queue)
     go (p ∷ ps) = refl
 
 -- a map file: 9, 1, and what a map or prefix call refuses
-pub file-refuses : (bs : List ℕ) → RefusedAmong (9 ∷ 1 ∷ 2 ∷ 3 ∷ 4 ∷ []) (readMap bs)
+pub file-refuses : (bs : List ℕ) → RefusedAmong (9 ∷ 1 ∷ 2 ∷ 3 ∷ 4 ∷ 11 ∷ []) (readMap bs)
 unfolding some-of
-file-refuses bs = among _ (file-always tt tt tt tt tt bs)
+file-refuses bs = among _ (file-always tt tt tt tt tt tt bs)
+
+-- writing a map file: 10
+pub write-refuses : (t : Tables) (xs : List Binding) (lent : ℕ) → RefusedAmong (10 ∷ []) (written t xs lent)
+unfolding written some-of
+write-refuses t xs lent = among (10 ∷ []) {X = Whatever} (always-unless (leb (length (writeMap t xs)) lent) 10 tt (accepts tt))
 
 -- a run's numbers: a map file's, the keys', and 10
 abbrev pub runNumbers : List ℕ
-runNumbers = 9 ∷ 1 ∷ 2 ∷ 3 ∷ 4 ∷ 8 ∷ 6 ∷ 5 ∷ 7 ∷ 10 ∷ []
+runNumbers = 9 ∷ 1 ∷ 2 ∷ 3 ∷ 4 ∷ 11 ∷ 8 ∷ 6 ∷ 5 ∷ 7 ∷ 10 ∷ []
 
 -- a run: these
 pub run-refuses : (map keys : List ℕ) (budget lent : ℕ) → RefusedAmong runNumbers (run map keys budget lent)
 unfolding some-of
-run-refuses map keys budget lent = among _ (run-always tt tt tt tt tt tt tt tt tt tt map keys budget lent)
+run-refuses map keys budget lent = among _ (run-always tt tt tt tt tt tt tt tt tt tt tt map keys budget lent)
 
 -- the bytes written, 0 if refused
 abbrev pub lengthOf : Result (List Pair) → ℕ
@@ -165,7 +179,7 @@ lengthOf (accept ps) = length (pairBytes ps)
 lengthOf (refuse n) = 0
 
 -- all are under 32, so the number for C splits into length and refusal
-pub code-splits : (map keys : List ℕ) (budget lent : ℕ) → let r = run map keys budget lent in (codeOf r / 32 ≡ lengthOf r) × (codeOf r % 32 ≡ refusalOf r)
+pub code-splits : (map keys : List ℕ) (budget lent : ℕ) → let r = run map keys budget lent in (codeOf pairBytes r / 32 ≡ lengthOf r) × (codeOf pairBytes r % 32 ≡ refusalOf r)
 unfolding codeOf some-of every
 code-splits map keys budget lent = go (run map keys budget lent) (run-refuses map keys budget lent)
   where
@@ -175,6 +189,6 @@ code-splits map keys budget lent = go (run map keys budget lent) (run-refuses ma
         let k = T-and (ltb x 32) (every (λ y. ltb y 32) ns) t in
         by-cases (eqb n x) (λ e. rw (eqb-is n x e) (ltb→lt x 32 (k .0))) (λ e. small ns (k .1) n (rw e at h))
 
-    go : (r : Result (List Pair)) → RefusedAmong runNumbers r → (codeOf r / 32 ≡ lengthOf r) × (codeOf r % 32 ≡ refusalOf r)
+    go : (r : Result (List Pair)) → RefusedAmong runNumbers r → (codeOf pairBytes r / 32 ≡ lengthOf r) × (codeOf pairBytes r % 32 ≡ refusalOf r)
     go (accept ps) h = (omega arith, omega arith)
     go (refuse n) h = let k : n < 32 = small runNumbers tt n h in (omega arith, omega arith)

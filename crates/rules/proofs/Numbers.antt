@@ -9,9 +9,13 @@ use mathlib.Core.Bool.{Bool, true, false, not, _&&_}
 use mathlib.Core.Logic.{_⊎_, inl, inr}
 use mathlib.Core.List.{List, [], _∷_, _++_}
 use lib.Dec.{leb, ltb, eqb, eqb·suc-zero}
-use borrow.Author.Tests.{ltb-true, ltb-false, eqb-false, lt-ltb, le-ltb, le-leb, lt-leb, ne-eqb}
+use borrow.Author.Tests.{ltb-true, ltb-false, leb-true, eqb-false, lt-ltb, le-ltb, le-leb, lt-leb, ne-eqb}
 use Rattle.rules.specs.Basics.{if_then_else_, Result, accept, refuse, _>>=_, unless}
 use Rattle.rules.specs.Numbers.{groups, valueOf, lastGroup, shortest, numberUpTo, bytesOf}
+
+-- a refusal accepts nothing
+pub never : {A X : Type 0} (n : ℕ) (y : A) → refuse n ≡ accept y → X
+never n y e = absurd (let z : _≡_ {A = ℕ} 0 1 = cc in omega arith)
 
 -- ---- groups
 
@@ -48,6 +52,20 @@ groups-read (b ∷ bs) = go (ltb b 128) (groups bs) (groups-read bs)
     go true x h = (b, [], refl)
     go false (accept r) h = (b - 128, r .0, refl)
     go false (refuse n) h = h
+
+-- a number is at most the limit
+pub read-most : (most : ℕ) (bs rest : List ℕ) (n : ℕ) → numberUpTo most bs ≡ accept (n, rest) → n ≤ most
+unfolding numberUpTo
+read-most most bs rest n e = go (groups bs) e
+  where
+    held : (short low : Bool) (v : ℕ) (cs : List ℕ) → leb v most ≡ low → unless {A = ℕ × List ℕ} (short && low) 9 (accept (v, cs)) ≡ accept (n, rest) → n ≤ most
+    held true true v cs l e = let z : _≡_ {A = ℕ × List ℕ} (v, cs) (n, rest) = cc in rw (← (ap (λ (z : ℕ × List ℕ). z .0) z)) (leb-true v most l)
+    held true false v cs l e = never 9 _ e
+    held false low v cs l e = never 9 _ e
+
+    go : (x : Grouped) → judged most x ≡ accept (n, rest) → n ≤ most
+    go (accept r) e = held (shortest (r .0)) (leb (valueOf (r .0)) most) (valueOf (r .0)) (r .1) refl e
+    go (refuse k) e = never k _ e
 
 -- ---- a number by its first bytes
 
@@ -167,10 +185,6 @@ accepted (suc last) value most x y e = go (leb value most) (rw (eqb·suc-zero la
 abbrev pub Bytes : List ℕ → Type 0
 Bytes [] = Unit {0}
 Bytes (b ∷ bs) = (b < 256) × Bytes bs
-
--- a refusal accepts nothing
-never : {A X : Type 0} (n : ℕ) (y : A) → refuse n ≡ accept y → X
-never n y e = absurd (let z : _≡_ {A = ℕ} 0 1 = cc in omega arith)
 
 -- below or not
 pub side : (b n : ℕ) → (b < n) ⊎ (n ≤ b)

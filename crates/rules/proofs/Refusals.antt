@@ -1,5 +1,5 @@
 -- The refusals of each operation, by the order of its work: what a call of the machine, the reading of a map file and a run may
--- come to. What a map or prefix call keeps of the edge table, and a key of the trail, goes along.
+-- come to. What a map or prefix call keeps of the edge table, and other calls of tables, bindings and kept calls, goes along.
 use Prim.Native.Nat.{ℕ, zero, suc, _+_, min}
 use native.Mathlib.Omega.{arith}
 use mathlib.Core.Path.{_≡_, refl}
@@ -9,12 +9,12 @@ use mathlib.Core.List.{List, [], _∷_, _++_, map}
 use lib.Dec.{T, leb, ltb}
 use lib.ListN.{length, getD}
 use Rattle.rules.specs.Basics.{Result, accept}
-use Rattle.rules.specs.Values.{largest, modeCount, mostClasses, mostActions, mostRules, mostParts, mostQueued, mostTrail, defaultMode, isMode, isClass, isSequence, isStatus, isRepeat}
+use Rattle.rules.specs.Values.{largest, modeCount, mostClasses, mostActions, mostRules, mostParts, mostKept, mostQueued, mostTrail, defaultMode, isMode, isClass, isSequence, isStatus, isRepeat}
 use Rattle.rules.specs.Values.{Event, Part, Step, mapValid, prefixValid, Binding, Maps, Prefixes, Context, Pair}
 use Rattle.rules.specs.Tables.{Tables, tablesValid}
 use Rattle.rules.specs.Graph.{Edge}
 use Rattle.rules.specs.KeyLoop.{noTracker, tracker, fetch, withSequences, Input, inputKey, resetMode, repeatSequence}
-use Rattle.rules.specs.Calls.{Kind, Machine, graphKind, fresh, navigate, open-with, map-call, prefix-call, bind, key-call, repeat-call, reset-call}
+use Rattle.rules.specs.Calls.{Kind, Machine, graphKind, fresh, navigate, open-with, keep, map-call, prefix-call, bind, key-call, repeat-call, reset-call}
 use Rattle.rules.specs.Numbers.{groups, valueOf, shortest, numberUpTo, number}
 use Rattle.rules.specs.MapFile.{Reader, thenRead, lifted, such, times, listOf, readActions, readOptionalMode, readClass, readMode, readRule, readTables, repeatBy, eventBy, readPart, readStep, bindingBy, readBinding, readBindings, atEnd, readMap}
 use Rattle.rules.specs.Run.{mostOutput, numbersIn, readKeys, pairBytes, emptied, playKeys, run}
@@ -26,49 +26,64 @@ use Rattle.rules.proofs.Rounds.{weight, goto-keeps, loop-bounded}
 
 -- ---- calls of a machine
 
--- the bindings and the trail are as they were
+-- the map is as it was: tables, bindings and kept calls
+pub record SameMap {𝓚 : Kind} (s s₁ : Machine 𝓚) : Type 0 where
+  pub tables : s₁ .state .shared .tables ≡ s .state .shared .tables
+  pub bindings : s₁ .bindings ≡ s .bindings
+  pub kept : s₁ .kept ≡ s .kept
+
+-- and the trail is
 abbrev pub Stays : {𝓚 : Kind} → Machine 𝓚 → Machine 𝓚 → Type 0
-Stays s s₁ = (s₁ .bindings ≡ s .bindings) × (s₁ .state .shared .trail ≡ s .state .shared .trail)
+Stays s s₁ = SameMap s s₁ × (s₁ .state .shared .trail ≡ s .state .shared .trail)
 
 module _ (𝓚 : Kind) {N : ℕ → Bool} where
   pub open-always : T (N 1) → (t : Tables) → Always N (λ s. s ≡ fresh 𝓚 t) (open-with 𝓚 t)
   unfolding open-with
   open-always one t = always-unless (tablesValid t) 1 one (accepts refl)
 
-  pub key-always : T (N 8) → T (N 6) → T (N 5) → T (N 7) → (i : Input) (s : Machine 𝓚) → Always N Whatever (key-call 𝓚 i s .result)
+  -- what a binding call came to is kept, unless with 11, and the state stays
+  pub keep-always : T (N 11) → (x : Binding) (s : Machine 𝓚) (b : 𝓚 .Bindings) → Always N (λ s₁. (s₁ .bindings ≡ b) × (s₁ .state ≡ s .state)) (keep 𝓚 x s b)
+  unfolding keep
+  keep-always eleven x s b = always-unless (ltb (length (s .kept)) mostKept) 11 eleven (accepts (refl, refl))
+
+  pub key-always : T (N 8) → T (N 6) → T (N 5) → T (N 7) → (i : Input) (s : Machine 𝓚)
+      → Always N (λ m. m .shared .tables ≡ s .state .shared .tables) (key-call 𝓚 i s .result)
   unfolding key-call inputKey
   key-always eight six five seven i s =
       let tr = s .state .shared .trail in
-      always-more (λ m h. tt)
-      (loop-bounded (navigate 𝓚 s) six five seven (weight (i .key ∷ []) + weight tr) (mostTrail + length tr) (omega arith) (λ k. Unit {0}) tt (λ k h. tt) eight (i .budget) 0 (i .key ∷ []) (s .state)
-      (record { weighs = omega arith; trails = omega arith; tries = (tt, tt); waits = each-key (λ k. tt) tr }))
+      always-more (λ m h. h .tables)
+      (loop-bounded (navigate 𝓚 s) six five seven (s .state .shared .tables) (weight (i .key ∷ []) + weight tr) (mostTrail + length tr) (omega arith) (λ k. Unit {0}) tt (λ k h. tt) eight (i .budget) 0 (i .key ∷ []) (s .state)
+      (record { tables = refl; weighs = omega arith; trails = omega arith; tries = (tt, tt); waits = each-key (λ k. tt) tr }))
 
   pub repeat-always : T (N 1) → T (N 5) → (q : ℕ) (over : Option Context) (s : Machine 𝓚) → Always N (Stays s) (repeat-call 𝓚 q over s)
   unfolding repeat-call repeatSequence
   repeat-always one five q over s =
       let c = s .state .shared in
-      always-bind {X = λ c₁. c₁ .trail ≡ c .trail}
+      always-bind {X = λ c₁. (c₁ .tables ≡ c .tables) × (c₁ .trail ≡ c .trail)}
       (always-unless (isSequence q) 1 one
-      (always-unless (leb (length (fetch over (getD (c .sequences) q noTracker) .pairs) + length (c .queue)) mostQueued) 5 five (accepts refl)))
-      (λ c₁ h. accepts (refl, h))
+      (always-unless (leb (length (fetch over (getD (c .sequences) q noTracker) .pairs) + length (c .queue)) mostQueued) 5 five (accepts (refl, refl))))
+      (λ c₁ h. accepts (record { tables = h .0; bindings = refl; kept = refl }, h .1))
 
   pub reset-always : T (N 6) → T (N 5) → (s : Machine 𝓚) → Always N (Stays s) (reset-call 𝓚 s)
   unfolding reset-call resetMode
   reset-always six five s =
       let c = s .state .shared in
-      always-bind (goto-keeps (navigate 𝓚 s) six five (λ tr. tr ≡ c .trail) defaultMode (withSequences (map (λ x. tracker (x .pairs) true) (c .sequences)) c) refl) (λ m h. accepts (refl, h))
+      always-bind (goto-keeps (navigate 𝓚 s) six five (λ t tr. (t ≡ c .tables) × (tr ≡ c .trail)) defaultMode (withSequences (map (λ x. tracker (x .pairs) true) (c .sequences)) c) (refl, refl))
+      (λ m h. accepts (record { tables = h .0; bindings = refl; kept = refl }, h .1))
 
-module _ {N : ℕ → Bool} (one : T (N 1)) (two : T (N 2)) (three : T (N 3)) (four : T (N 4))
-    (E : List Edge → Type 0) (keep : (xs : List Edge) (n : ℕ) (ev : Event) (to : ℕ) → E xs → E (stored xs (edge n ev to))) where
+module _ {N : ℕ → Bool} (one : T (N 1)) (two : T (N 2)) (three : T (N 3)) (four : T (N 4)) (eleven : T (N 11))
+    (E : List Edge → Type 0) (stays : (xs : List Edge) (n : ℕ) (ev : Event) (to : ℕ) → E xs → E (stored xs (edge n ev to))) where
   pub map-always : (mode : ℕ) (path : List Part) (st : Step) (s : Machine graphKind) → E (s .bindings .edges) → Always N (λ s₁. E (s₁ .bindings .edges)) (map-call graphKind mode path st s)
   unfolding map-call
   map-always mode path st s h =
-      always-bind (always-unless (mapValid mode path st) 1 one (map-grows E two three four keep mode path st (s .bindings) h)) (λ g k. accepts k)
+      always-bind (always-unless (mapValid mode path st) 1 one (map-grows E two three four stays mode path st (s .bindings) h))
+      (λ g k. always-more (λ s₁ e. rw (e .0) k) (keep-always graphKind eleven (Maps mode path st) s g))
 
   pub prefix-always : (mode : ℕ) (path : List Part) (os : Option Step) (s : Machine graphKind) → E (s .bindings .edges) → Always N (λ s₁. E (s₁ .bindings .edges)) (prefix-call graphKind mode path os s)
   unfolding prefix-call
   prefix-always mode path os s h =
-      always-bind (always-unless (prefixValid mode path os) 1 one (prefix-grows E two three four keep mode path os (s .bindings) h)) (λ g k. accepts k)
+      always-bind (always-unless (prefixValid mode path os) 1 one (prefix-grows E two three four stays mode path os (s .bindings) h))
+      (λ g k. always-more (λ s₁ e. rw (e .0) k) (keep-always graphKind eleven (Prefixes mode path os) s g))
 
 -- ---- readers
 
@@ -166,15 +181,15 @@ module _ {N : ℕ → Bool} (nine : T (N 9)) (one : T (N 1)) where
       then-reads (such-always (λ n. leb n 2) bs)
       (λ kind bs₁. then-reads (such-always isMode bs₁) (λ mode bs₂. then-reads (list-always mostParts readPart part-always bs₂) (λ path bs₃. binding-by-always kind mode path bs₃)))
 
-  module _ (two : T (N 2)) (three : T (N 3)) (four : T (N 4)) where
+  module _ (two : T (N 2)) (three : T (N 3)) (four : T (N 4)) (eleven : T (N 11)) where
     call-read : {A : Type 0} {X : A → Type 0} {r : Result A} → Always N X r → Reads N (lifted r)
     call-read (accepts h) bs = accepts tt
     call-read (refuses n o) bs = refuses n o
 
     bind-always : (x : Binding) (s : Machine graphKind) → Reads N (lifted (bind graphKind x s))
     unfolding bind
-    bind-always (Maps mode path st) s = call-read (map-always one two three four (λ _. Unit {0}) (λ _ _ _ _ _. tt) mode path st s tt)
-    bind-always (Prefixes mode path st) s = call-read (prefix-always one two three four (λ _. Unit {0}) (λ _ _ _ _ _. tt) mode path st s tt)
+    bind-always (Maps mode path st) s = call-read (map-always one two three four eleven (λ _. Unit {0}) (λ _ _ _ _ _. tt) mode path st s tt)
+    bind-always (Prefixes mode path st) s = call-read (prefix-always one two three four eleven (λ _. Unit {0}) (λ _ _ _ _ _. tt) mode path st s tt)
 
     bindings-always : (n : ℕ) (s : Machine graphKind) → Reads N (readBindings n s)
     unfolding readBindings
@@ -211,8 +226,8 @@ module _ {N : ℕ → Bool} (eight : T (N 8)) (six : T (N 6)) (five : T (N 5)) (
   keys-always nine (suc most) [] = accepts tt
   keys-always nine (suc most) (b ∷ bs) = always-bind (number-always nine (b ∷ bs)) (λ r _. always-bind (keys-always nine most (r .1)) (λ ks _. accepts tt))
 
-  pub run-always : T (N 9) → T (N 1) → T (N 2) → T (N 3) → T (N 4) → (map keys : List ℕ) (budget lent : ℕ) → Always N Whatever (run map keys budget lent)
+  pub run-always : T (N 9) → T (N 1) → T (N 2) → T (N 3) → T (N 4) → T (N 11) → (map keys : List ℕ) (budget lent : ℕ) → Always N Whatever (run map keys budget lent)
   unfolding run readKeys
-  run-always nine one two three four map keys budget lent =
-      always-bind (file-always nine one two three four map)
+  run-always nine one two three four eleven map keys budget lent =
+      always-bind (file-always nine one two three four eleven map)
       (λ s _. always-bind (keys-always nine (length keys) keys) (λ ks _. play-always budget (min lent mostOutput) ks s []))

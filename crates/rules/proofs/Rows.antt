@@ -10,20 +10,21 @@ use mathlib.Core.List.{List, [], _∷_, _++_, map}
 use lib.Dec.{leb, leb→le, le→leb}
 use lib.ListN.{length, replicate}
 use Rattle.rules.specs.Basics.{accept, refuse, open-Basics}
-use Rattle.rules.specs.Values.{largest, modeCount, classCount, sequenceCount, statusCount, mostClasses, mostActions, mostRules, mostNodes, mostEdges, mostParts, mostRepeats, mostQueued, mostTracked, mostTrail, composed, firstKey}
-use Rattle.rules.specs.Values.{Event, Key, Class, Any, Fallthrough, Repeat, Min, Max, Part, Step, defaultStep, pair, defaultPair, open-Values}
+use Rattle.rules.specs.Values.{largest, modeCount, classCount, sequenceCount, statusCount, mostClasses, mostActions, mostRules, mostNodes, mostEdges, mostParts, mostKept, mostRepeats, mostQueued, mostTracked, mostTrail, composed, firstKey}
+use Rattle.rules.specs.Values.{Event, Key, Class, Any, Fallthrough, Repeat, Min, Max, Part, Step, Binding, Maps, Prefixes, defaultStep, pair, defaultPair, open-Values}
 use Rattle.rules.specs.Tables.{ClassEntry, ModeEntry, Rule, Tables, noTables, open-Tables}
-use Rattle.rules.specs.Graph.{NodeAction, Empty, Root, Holds, Node, Graph, addNode, putEdge, open-Graph}
+use Rattle.rules.specs.Graph.{NodeAction, Empty, Root, Holds, Node, Graph, freshGraph, addNode, putEdge, open-Graph}
 use Rattle.rules.specs.KeyLoop.{tracker, noTracker, open-KeyLoop}
-use Rattle.rules.specs.Calls.{Call, Open, Map, Prefix, Pop, Repeats, Reset, Accepted, Refused, Nothing, PressRefused, graphKind, fresh, leaves, holdsAction, FindFits, nodesLeft, HintFits, open-Calls}
+use Rattle.rules.specs.Calls.{Call, Open, Map, Prefix, Pop, Repeats, Reset, Accepted, Refused, Nothing, PressRefused, Machine, graphKind, fresh, bind, leaves, holdsAction, FindFits, nodesLeft, HintFits, open-Calls}
 use Rattle.rules.specs.Numbers.{open-Numbers}
-use Rattle.rules.specs.MapFile.{readMap, open-MapFile}
+use Rattle.rules.specs.MapFile.{readBindings, readMap, open-MapFile}
 use Rattle.rules.specs.Run.{mostOutput, mostInput, playBudget, linesOf, decimal, refusal, textOf, playInput, keyplay, open-Run}
+use Rattle.rules.specs.Writing.{written, fileOf, open-Writing}
 use Rattle.rules.proofs.Table.{Tried, _⇒_, once, one, two, does, key, key-within, rounds, gives, a, b, j, q, r, z, Row, row, tryAll, stepHeld, outcome}
 use Rattle.rules.proofs.Examples.{refusalOf, Bytes, _meets_}
 use Rattle.rules.proofs.Tests.{by-cases, no-way, T-is, is-T}
 
--- ---- the limits, as document 01 has them
+-- ---- the limits, as document 01 has them, and the 1,024 kept calls of document 02's request (i)
 
 pub limits-hold : (largest ≡ 65535)
     × (modeCount ≡ 16)
@@ -36,6 +37,7 @@ pub limits-hold : (largest ≡ 65535)
     × (mostNodes ≡ 1024)
     × (mostEdges ≡ 2048)
     × (mostParts ≡ 32)
+    × (mostKept ≡ 1024)
     × (mostRepeats ≡ 255)
     × (mostQueued ≡ 256)
     × (mostTracked ≡ 64)
@@ -45,7 +47,7 @@ pub limits-hold : (largest ≡ 65535)
     × (mostOutput ≡ 65536)
     × (mostInput ≡ 65536)
     × (playBudget ≡ 1000)
-limits-hold = (refl, refl, refl, refl, refl, refl, refl, refl, refl, refl, refl, refl, refl, refl, refl, refl, refl, refl, refl, refl)
+limits-hold = (refl, refl, refl, refl, refl, refl, refl, refl, refl, refl, refl, refl, refl, refl, refl, refl, refl, refl, refl, refl, refl)
 
 -- ---- ranges: each value is taken at its limit, and one past it is 1
 
@@ -481,6 +483,30 @@ pub graphs-hold : (noTracker ≡ tracker [] false)
 unfolding open-Basics open-Values open-Graph open-KeyLoop open-Calls
 graphs-hold = (refl, refl, refl, refl, refl, refl, refl, refl)
 
+-- a machine that keeps n calls
+abbrev pub keeping : ℕ → Graph → Machine graphKind
+keeping n g = record { bindings = g; kept = replicate n (Maps 0 [] (does 1)); state = fresh graphKind noTables .state }
+
+-- what a binding, and the reading of one, come to on the machine
+abbrev pub binds : Binding → Machine graphKind → ℕ
+binds x s = refusalOf (bind graphKind x s)
+
+abbrev pub reads-one : List ℕ → Machine graphKind → ℕ
+reads-one bs s = refusalOf (readBindings 1 s bs)
+
+-- 1,023 calls, and 1,024 with a fresh graph, a full graph and a full edge table
+abbrev pub nearly-full-and-full : List (Machine graphKind)
+nearly-full-and-full = keeping 1023 freshGraph ∷ keeping 1024 freshGraph ∷ keeping 1024 (with-nodes 1040) ∷ keeping 1024 (with-edges 2048) ∷ []
+
+-- The 1,024th call is kept, the next is 11; a full graph is 2, and a full edge table 3, before that. In a file 11 is met after the
+-- binding's last number, before a byte left over: an early end and mode 16 are met first
+pub keeps-hold : (map (binds (Maps 0 (one (Key a)) (does 1))) nearly-full-and-full ≡ 0 ∷ 11 ∷ 2 ∷ 3 ∷ [])
+    × (map (binds (Prefixes 0 (one (Key a)) (some (does 1)))) nearly-full-and-full ≡ 0 ∷ 11 ∷ 2 ∷ 3 ∷ [])
+    × (map (reads-one (1 ∷ 0 ∷ 0 ∷ 0 ∷ [])) (keeping 1023 freshGraph ∷ keeping 1024 freshGraph ∷ []) ≡ 0 ∷ 11 ∷ [])
+    × (map (λ bs. reads-one bs (keeping 1024 freshGraph)) ((1 ∷ 0 ∷ []) ∷ (1 ∷ 16 ∷ []) ∷ []) ≡ 9 ∷ 1 ∷ [])
+unfolding open-Basics open-Values open-Tables open-Graph open-KeyLoop open-Calls open-Numbers open-MapFile
+keeps-hold = (refl, refl, refl, refl)
+
 -- find: mode 16 is 1; in mode 3 a node whose step has the action, and "none" only where there is none
 abbrev pub with-step : Graph
 with-step = record { nodes = node Empty ∷ node (Holds (does 7)) ∷ []; edges = [] }
@@ -554,12 +580,18 @@ its-calls =
 abbrev pub the-largest : List ℕ
 the-largest = 0x36 ∷ 0x35 ∷ 0x35 ∷ 0x33 ∷ 0x35 ∷ []
 
--- lines have all five digits, or one
+-- The machine that a file gives is the one that its calls leave, and its file is this one; lines have all five digits, or one
 pub files-and-text-hold : (map (λ x. refusalOf (readMap (x .bytes))) files-at-their-limits ≡ map (λ x. x .met) files-at-their-limits)
     × (readMap a-map ≡ accept (leaves graphKind (fresh graphKind noTables) its-calls))
+    × (fileOf graphKind (leaves graphKind (fresh graphKind noTables) its-calls) ≡ a-map)
     × (linesOf (pair 65535 65535 65535 ∷ pair 9 10 0 ∷ []) ≡ the-largest ++ 0x20 ∷ the-largest ++ 0x20 ∷ the-largest ++ 0x0A ∷ 0x39 ∷ 0x20 ∷ 0x31 ∷ 0x30 ∷ 0x20 ∷ 0x30 ∷ 0x0A ∷ [])
-unfolding open-Basics open-Values open-Tables open-Graph open-KeyLoop open-Calls open-Numbers open-MapFile open-Run
-files-and-text-hold = (refl, refl, refl)
+unfolding open-Basics open-Values open-Tables open-Graph open-KeyLoop open-Calls open-Numbers open-MapFile open-Run open-Writing
+files-and-text-hold = (refl, refl, refl, refl)
+
+-- 450 mappings of 32 parts, each part of 5 bytes, take more than 65,536 bytes, and are written where so many are lent
+pub long-file-holds : refusalOf (written noTables (replicate 450 (Maps 0 (replicate 32 (once (Key 65535))) (does 1))) 100000) ≡ 0
+unfolding open-Basics open-Tables open-Numbers open-Writing
+long-file-holds = refl
 
 -- input of at most 65,536 bytes is played; longer input gives the line "refused 9"
 pub input-holds : (input : List ℕ) → (length input ≤ 65536 → keyplay input ≡ textOf (playInput input))

@@ -4,11 +4,11 @@ use Prim.Native.Nat.{ℕ, _+_, _-_, _≤_, _<_}
 use mathlib.Core.Path.{_≡_}
 use mathlib.Core.Bool.{Bool, false, not, _&&_}
 use mathlib.Core.Option.{Option, none, some}
-use mathlib.Core.List.{List, [], _∷_}
-use lib.Dec.{T, eqb}
+use mathlib.Core.List.{List, [], _∷_, _++_}
+use lib.Dec.{T, eqb, ltb}
 use lib.ListN.{length}
 use Rattle.rules.specs.Basics.{if_then_else_, Result, accept, refuse, _>>=_, unless, some-of}
-use Rattle.rules.specs.Values.{modeCount, mostNodes, defaultMode, Event, Part, Step, mapValid, prefixValid, Binding, Maps, Prefixes, Context, Pair}
+use Rattle.rules.specs.Values.{modeCount, mostNodes, mostKept, defaultMode, Event, Part, Step, mapValid, prefixValid, Binding, Maps, Prefixes, Context, Pair}
 use Rattle.rules.specs.Tables.{Tables, tablesValid}
 use Rattle.rules.specs.Graph.{NodeAction, Empty, Root, Holds, Node, Graph, freshGraph, getNode, hasEdges, Follow, Successor, FallsTo, NoSuccessor, followEdge, addMapping, addPrefix}
 use Rattle.rules.specs.KeyLoop.{Shared, freshShared, withQueue, Again, ClearTrail, Consumed, NeedMore, Unmapped, RunStep, RetryAfter, Turn, Navigator, State, at, Input, KeyResult, inputKey, resetMode, repeatSequence}
@@ -44,15 +44,14 @@ pub record Kind : Type 1 where
   pub navigator : Bindings → Navigator Place
 
 module _ (𝓚 : Kind) where
+  -- `kept`: the accepted binding calls in order, those with an empty path too (document 02, request (i))
   pub record Machine : Type 0 where
     pub bindings : 𝓚 .Bindings
+    pub kept : List Binding
     pub state : State (𝓚 .Place)
 
-  abbrev pub withBindings : Machine → 𝓚 .Bindings → Machine
-  withBindings s b = record { bindings = b; state = s .state }
-
   abbrev pub withState : Machine → State (𝓚 .Place) → Machine
-  withState s m = record { bindings = s .bindings; state = m }
+  withState s m = record { bindings = s .bindings; kept = s .kept; state = m }
 
   abbrev pub withShared : Machine → Shared → Machine
   withShared s c = withState s (at (s .state .place) c)
@@ -60,29 +59,42 @@ module _ (𝓚 : Kind) where
   abbrev pub navigate : Machine → Navigator (𝓚 .Place)
   navigate s = 𝓚 .navigator (s .bindings)
 
-  -- the fresh machine with tables: no binding, and the place is the root of mode 0
+  -- the fresh machine with tables: no binding, no call kept, and the place is the root of mode 0
   unfoldable pub fresh : Tables → Machine
-  fresh t = record { bindings = 𝓚 .none-yet; state = at (𝓚 .navigator (𝓚 .none-yet) .root defaultMode) (freshShared t) }
+  fresh t = record { bindings = 𝓚 .none-yet; kept = []; state = at (𝓚 .navigator (𝓚 .none-yet) .root defaultMode) (freshShared t) }
 
   -- open with tables: 1 a value or count outside its range
   unfoldable pub open-with : Tables → Result Machine
   open-with t = unless (tablesValid t) 1 (accept (fresh t))
 
-  -- map: 1 likewise, then the refusals of adding as they are met
+  -- the machine with what a binding call came to, and the call kept: 11 when 1,024 are kept already
+  unfoldable pub keep : Binding → Machine → 𝓚 .Bindings → Result Machine
+  keep x s b =
+      unless (ltb (length (s .kept)) mostKept) 11
+      (accept (record { bindings = b; kept = s .kept ++ (x ∷ []); state = s .state }))
+
+  -- map: 1 likewise, then the refusals of adding as they are met, then 11
   unfoldable pub map-call : ℕ → List Part → Step → Machine → Result Machine
   map-call mode path st s = do
     b ← unless (mapValid mode path st) 1 (𝓚 .map-in mode path st (s .bindings))
-    accept (withBindings s b)
+    keep (Maps mode path st) s b
 
   -- prefix: the same
   unfoldable pub prefix-call : ℕ → List Part → Option Step → Machine → Result Machine
   prefix-call mode path st s = do
     b ← unless (prefixValid mode path st) 1 (𝓚 .prefix-in mode path st (s .bindings))
-    accept (withBindings s b)
+    keep (Prefixes mode path st) s b
 
   unfoldable pub bind : Binding → Machine → Result Machine
   bind (Maps mode path st) s = map-call mode path st s
   bind (Prefixes mode path st) s = prefix-call mode path st s
+
+  -- bindings in their order, up to the first refusal met
+  unfoldable pub bindAll : List Binding → Machine → Result Machine
+  bindAll [] s = accept s
+  bindAll (x ∷ xs) s = do
+    s₁ ← bind x s
+    bindAll xs s₁
 
   -- key: rounds are made and reported, refused or not
   unfoldable pub key-call : Input → Machine → KeyResult (𝓚 .Place)
@@ -197,5 +209,5 @@ HintFits g h = (h ≤ nodesLeft g) × (h ≡ 0 → nodesLeft g ≡ 0)
 
 -- ---- everything above, to be opened by one name where a run is computed
 unfoldable pub open-Calls : Unit {0}
-unfolding fresh open-with map-call prefix-call bind key-call repeat-call reset-call mode-call settled pressed popped call history leaves arrive land turnBy graphNavigator does holdsAction nodesLeft
+unfolding fresh open-with keep map-call prefix-call bind bindAll key-call repeat-call reset-call mode-call settled pressed popped call history leaves arrive land turnBy graphNavigator does holdsAction nodesLeft
 open-Calls = tt

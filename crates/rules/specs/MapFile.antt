@@ -1,6 +1,6 @@
 -- Document 01, "Map file and run": reading a map file. A reader takes bytes to a value and the bytes after it, or to the
--- first refusal met: 9 by a number, 1 by a number out of its range when it is read, 2 to 4 after a binding's last number,
--- 9 by bytes that remain after the last binding.
+-- first refusal met: 9 by a number, 1 by a number out of its range when it is read, 2 to 4 and
+-- 11 after a binding's last number, 9 by bytes that remain after the last binding.
 use Prim.Native.Nat.{ℕ, zero, suc}
 use mathlib.Core.Bool.{Bool}
 use mathlib.Core.Option.{Option, none, some}

@@ -63,19 +63,21 @@ run map keys budget lent = do
   ks ← readKeys keys
   playKeys budget (min lent mostOutput) ks s []
 
--- the result for C: length × 32 + refusal
-unfoldable pub codeOf : Result (List Pair) → ℕ
-codeOf (accept ps) = length (pairBytes ps) * 32
-codeOf (refuse n) = n
+-- what C gets of a value that is written as bytes to the output that it lent, or of a refusal
+module _ {A : Type 0} (bytes : A → List ℕ) where
+  -- one number: length × 32 + refusal
+  unfoldable pub codeOf : Result A → ℕ
+  codeOf (accept a) = length (bytes a) * 32
+  codeOf (refuse n) = n
 
--- the output: accepted, the pairs' bytes, and what lies past them stays; refused, all zeros
-unfoldable pub outputOf : List ℕ → Result (List Pair) → List ℕ
-outputOf lent (accept ps) = pairBytes ps ++ drop (length (pairBytes ps)) lent
-outputOf lent (refuse n) = replicate (length lent) 0
+  -- the output: accepted, the bytes, and what lies past them stays; refused, all zeros
+  unfoldable pub outputOf : List ℕ → Result A → List ℕ
+  outputOf lent (accept a) = bytes a ++ drop (length (bytes a)) lent
+  outputOf lent (refuse n) = replicate (length lent) 0
 
--- what C gets of a run on the output that it lent: one number, and the output
-abbrev pub answered : List ℕ → Result (List Pair) → ℕ × List ℕ
-answered lent r = (codeOf r, outputOf lent r)
+  -- both
+  abbrev pub answered : List ℕ → Result A → ℕ × List ℕ
+  answered lent r = (codeOf r, outputOf lent r)
 
 -- ---- `keyplay`
 

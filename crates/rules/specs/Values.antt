@@ -54,6 +54,10 @@ mostEdges = 2048
 abbrev pub mostParts : ℕ
 mostParts = 32
 
+-- accepted binding calls that a machine keeps (document 02, request (i))
+abbrev pub mostKept : ℕ
+mostKept = 1024
+
 -- the n of Min and Max
 abbrev pub mostRepeats : ℕ
 mostRepeats = 255
@@ -208,10 +212,14 @@ unfoldable pub prefixValid : ℕ → List Part → Option Step → Bool
 prefixValid mode path none = isMode mode && pathValid path
 prefixValid mode path (some s) = mapValid mode path s
 
--- the call itself, as it is read
+-- the call itself, as it is read, kept and written
 pub data Binding : Type 0 where
   Maps : ℕ → List Part → Step → Binding
   Prefixes : ℕ → List Part → Option Step → Binding
+
+unfoldable pub bindingValid : Binding → Bool
+bindingValid (Maps mode path st) = mapValid mode path st
+bindingValid (Prefixes mode path st) = prefixValid mode path st
 
 -- ---- pair
 
@@ -228,5 +236,5 @@ defaultPair = pair defaultAction 0 0
 
 -- ---- everything above, to be opened by one name where a run is computed
 unfoldable pub open-Values : Unit {0}
-unfolding sameEvent eventValid repeatValid partValid pathValid noContext hook merge defaultStep stepValid mapValid prefixValid defaultPair
+unfolding sameEvent eventValid repeatValid partValid pathValid noContext hook merge defaultStep stepValid mapValid prefixValid bindingValid defaultPair
 open-Values = tt

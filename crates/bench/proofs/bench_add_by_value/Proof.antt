@@ -1,17 +1,22 @@
--- A call by value asks nothing; the bindings left to add fall.
+-- A call by value asks only for the kept words' length, which each call keeps; the bindings left to add fall.
 use Prim.Native.Nat.{_≤_, _-_}
+use mathlib.Core.Path.{_≡_}
+use lib.ListN.{length}
 use borrow.Author.Needs.{needs}
 use Rattle.bench.proofs.bench_add_by_value.Statement.{statement}
 use Rattle.bench.proofs.bench_add_by_value.Tie as tie
 
 abbrev Inv-loop : tie.InvT-loop
-Inv-loop n g₀ i₀ g i = i ≤ n
+Inv-loop n kept₀ m₀ i₀ kept m i = (length kept ≡ 18432) × (i ≤ n)
 
 abbrev μ-loop : tie.MeasureT-loop
-μ-loop n g₀ i₀ g i = n - i
+μ-loop n kept₀ m₀ i₀ kept m i = n - i
 
 fresh-requires : tie.Need-fresh-requires Inv-loop μ-loop
 fresh-requires c κs = search needs
+
+empty-requires : tie.Need-empty-requires Inv-loop μ-loop
+empty-requires c κs = search needs
 
 loop-holds : tie.Need-loop-holds Inv-loop μ-loop
 loop-holds c = search needs
@@ -44,6 +49,7 @@ bench-add-by-value-spec =
     Inv-loop
     μ-loop
     fresh-requires
+    empty-requires
     loop-holds
     two-keys-requires
     one-action-requires

@@ -5,13 +5,13 @@ use Rattle.bench.proofs.calls.bench_mappings.Statement.{statement}
 use Rattle.bench.proofs.calls.bench_mappings.Tie as tie
 
 abbrev Inv-loop : tie.InvT-loop
-Inv-loop bytes times m₀ sum₀ i₀ m sum i = i ≤ times
+Inv-loop bytes times s₀ sum₀ i₀ s sum i = i ≤ times
 
 abbrev μ-loop : tie.MeasureT-loop
-μ-loop bytes times m₀ sum₀ i₀ m sum i = times - i
+μ-loop bytes times s₀ sum₀ i₀ s sum i = times - i
 
-machine-of-requires : tie.Need-machine-of-requires Inv-loop μ-loop
-machine-of-requires c κs = search needs
+scanner-of-requires : tie.Need-scanner-of-requires Inv-loop μ-loop
+scanner-of-requires c κs = search needs
 
 loop-holds : tie.Need-loop-holds Inv-loop μ-loop
 loop-holds c = search needs
@@ -46,7 +46,7 @@ bench-mappings-spec =
     (tie.spec
     Inv-loop
     μ-loop
-    machine-of-requires
+    scanner-of-requires
     loop-holds
     two-keys-requires
     one-action-requires

@@ -23,11 +23,11 @@ input-key-or-scratch-requires : tie.Need-input-key-or-scratch-requires
 input-key-or-scratch-requires c κs = let z = sized (c .before .before .before .before .before .before .before .before) in ((c .before .before .before .before .before .before .before .before .before .before .before .before .pre, c .before .before .before .before .before .before .before .index-of .ensures .long, z .3), (z .0, z .1, z .2))
 
 returns : tie.Need-returns
-returns c = let a = c .before .before .before .before .before .before .before .before .before .before .before .before .before .before .before .args in let m = machineBy (graphIn (a .words .now) (a .counts)) (tablesIn (a .t3 .words)) (a .live) in let i : Input = record { key = a .key; budget = a .budget } in let r = c .before .before .input-key-or-scratch in let x = c .before .before .before .before .before .before .before .before .before .before .index-of in
+returns c ks = let a = c .before .before .before .before .before .before .before .before .before .before .before .before .before .before .before .args in let m = machineBy (graphIn (a .words .now) (a .counts)) ks (tablesIn (a .t3 .words)) (a .live) in let i : Input = record { key = a .key; budget = a .budget } in let r = c .before .before .input-key-or-scratch in let x = c .before .before .before .before .before .before .before .before .before .before .index-of in
     press-refused m i (r .result .rounds) (r .result .refusal) _ (r .ensures .1 ∙ ap (λ nav. inputKey nav i (m .state)) (index-leads (a .words .now) (a .counts) (x .result .links) (x .ensures))) (c .if1 .taken)
 
 returns-2 : tie.Need-returns-2
-returns-2 c = let a = c .before .before .before .before .before .before .before .before .before .before .before .before .before .before .before .before .args in let m = machineBy (graphIn (a .words .now) (a .counts)) (tablesIn (a .t3 .words)) (a .live) in let i : Input = record { key = a .key; budget = a .budget } in let r = c .before .before .before .input-key-or-scratch in let x = c .before .before .before .before .before .before .before .before .before .before .before .index-of in
+returns-2 c ks = let a = c .before .before .before .before .before .before .before .before .before .before .before .before .before .before .before .before .args in let m = machineBy (graphIn (a .words .now) (a .counts)) ks (tablesIn (a .t3 .words)) (a .live) in let i : Input = record { key = a .key; budget = a .budget } in let r = c .before .before .before .input-key-or-scratch in let x = c .before .before .before .before .before .before .before .before .before .before .before .index-of in
     press-done m i (r .result .rounds) (r .result .refusal) _ (r .ensures .1 ∙ ap (λ nav. inputKey nav i (m .state)) (index-leads (a .words .now) (a .counts) (x .result .links) (x .ensures))) (c .before .if1 .left)
 
 pub input-key-spec : {M : Type 1} → statement M

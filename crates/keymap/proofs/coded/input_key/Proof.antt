@@ -14,7 +14,7 @@ pressed-code-requires : tie.Need-pressed-code-requires
 pressed-code-requires c κs = search needs
 
 returns : tie.Need-returns
-returns c = let a = c .before .before .before .args in let r = c .before .before .input-key in numbered (machineBy (graphIn (a .words .now) (a .counts)) (tablesIn (a .tables .words)) (r .result .live)) (pressOf (r .result .answer)) (c .pressed-code .result) _ (r .ensures) (c .pressed-code .ensures)
+returns c = λ ks. let a = c .before .before .before .args in let r = c .before .before .input-key in numbered (machineBy (graphIn (a .words .now) (a .counts)) ks (tablesIn (a .tables .words)) (r .result .live)) (pressOf (r .result .answer)) (c .pressed-code .result) _ (r .ensures ks) (c .pressed-code .ensures)
 
 pub input-key-spec : {M : Type 1} → statement M
 input-key-spec = tie.close (tie.spec input-key-requires pressed-code-requires returns)

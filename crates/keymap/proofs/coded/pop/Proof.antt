@@ -12,7 +12,7 @@ waiting-code-requires : tie.Need-waiting-code-requires
 waiting-code-requires c κs = search needs
 
 returns : tie.Need-returns
-returns c = λ g t. let r = c .before .before .pop in numbered (machineBy g t (r .result .live)) (popOf (r .result .answer)) (c .waiting-code .result) _ (r .ensures g t) (c .waiting-code .ensures)
+returns c = λ g ks t. let r = c .before .before .pop in numbered (machineBy g ks t (r .result .live)) (popOf (r .result .answer)) (c .waiting-code .result) _ (r .ensures g ks t) (c .waiting-code .ensures)
 
 pub pop-spec : {M : Type 1} → statement M
 pop-spec = tie.close (tie.spec pop-requires waiting-code-requires returns)

@@ -13,7 +13,7 @@ answer-code-requires : tie.Need-answer-code-requires
 answer-code-requires c κs = search needs
 
 returns : tie.Need-returns
-returns c = λ g t. let r = c .before .before .repeat in numbered (machineBy g t (r .result .live)) (answerOf (r .result .answer)) (c .answer-code .result) _ (r .ensures g t) (c .answer-code .ensures)
+returns c = λ g ks t. let r = c .before .before .repeat in numbered (machineBy g ks t (r .result .live)) (answerOf (r .result .answer)) (c .answer-code .result) _ (r .ensures g ks t) (c .answer-code .ensures)
 
 pub repeat-spec : {M : Type 1} → statement M
 repeat-spec = tie.close (tie.spec repeat-requires answer-code-requires returns)

@@ -8,7 +8,7 @@ use Rattle.keymap.proofs.coded.repeat_over.Statement.{statement}
 use Rattle.keymap.proofs.coded.repeat_over.Tie as tie
 
 returns : tie.Need-returns
-returns c = λ g t. let a = c .before .args in too-many (machineBy g t (a .live)) (a .sequence) (a .count) (a .mark) (c .if1 .taken)
+returns c = λ g ks t. let a = c .before .args in too-many (machineBy g ks t (a .live)) (a .sequence) (a .count) (a .mark) (c .if1 .taken)
 
 cast-t10 : tie.Need-cast-t10
 cast-t10 c = search needs
@@ -20,11 +20,11 @@ answer-code-requires : tie.Need-answer-code-requires
 answer-code-requires c κs = search needs
 
 returns-2 : tie.Need-returns-2
-returns-2 c = λ g t.
+returns-2 c = λ g ks t.
     let a = c .before .before .before .before .args in
     let r = c .before .before .repeat in
-    numbered (machineBy g t (r .result .live)) (answerOf (r .result .answer)) (c .answer-code .result) _
-    (r .ensures g t ∙ few-enough (machineBy g t (a .live)) (a .sequence) (a .count) (a .mark) (c .before .before .before .if1 .left)) (c .answer-code .ensures)
+    numbered (machineBy g ks t (r .result .live)) (answerOf (r .result .answer)) (c .answer-code .result) _
+    (r .ensures g ks t ∙ few-enough (machineBy g ks t (a .live)) (a .sequence) (a .count) (a .mark) (c .before .before .before .if1 .left)) (c .answer-code .ensures)
 
 pub repeat-over-spec : {M : Type 1} → statement M
 repeat-over-spec = tie.close (tie.spec returns cast-t10 repeat-requires answer-code-requires returns-2)

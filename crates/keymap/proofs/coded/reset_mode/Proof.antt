@@ -14,7 +14,7 @@ answer-code-requires : tie.Need-answer-code-requires
 answer-code-requires c κs = search needs
 
 returns : tie.Need-returns
-returns c = λ g. let a = c .before .before .before .args in let r = c .before .before .reset-mode in numbered (machineBy g (tablesIn (a .tables .words)) (r .result .live)) (answerOf (r .result .answer)) (c .answer-code .result) _ (r .ensures g) (c .answer-code .ensures)
+returns c = λ g ks. let a = c .before .before .before .args in let r = c .before .before .reset-mode in numbered (machineBy g ks (tablesIn (a .tables .words)) (r .result .live)) (answerOf (r .result .answer)) (c .answer-code .result) _ (r .ensures g ks) (c .answer-code .ensures)
 
 pub reset-mode-spec : {M : Type 1} → statement M
 reset-mode-spec = tie.close (tie.spec reset-mode-requires answer-code-requires returns)

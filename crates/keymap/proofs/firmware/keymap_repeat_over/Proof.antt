@@ -1,11 +1,13 @@
 -- The live state alone is loaded and stored, by `Walk`.
 use mathlib.Core.Path.{_≡_}
-use mathlib.Core.List.{[], _∷_}
+use mathlib.Core.List.{[], _∷_, List}
+use Rattle.rules.specs.Values.{Binding}
 use Rattle.rules.specs.Tables.{Tables}
 use Rattle.rules.specs.Graph.{Graph}
 use Rattle.keyparts.specs.View.{graphOf}
 use Rattle.keytables.specs.View.{tablesIn}
-use Rattle.keymachine.specs.View.{machineBy, machineOf}
+use Rattle.keptcalls.specs.View.{callsIn}
+use Rattle.keymachine.specs.View.{machineBy, scannerOf}
 use Rattle.keymap.specs.Codes.{coded, repeatOver}
 use denote.Triple.Spec.{tripleOf}
 use Rattle.lending.proofs.Args.{plainly}
@@ -27,13 +29,13 @@ this = calling the-live coded-live (load the-live ∷ []) (plainly u16 ∷ plain
 
 -- what the call promises, and what that makes of the scanner
 abbrev Gives : Promise this
-Gives t l r = (g : Graph) (tb : Tables) → (machineBy g tb l, r) ≡ coded (repeatOver (machineBy g tb (t .0)) (t .1 .0) (t .1 .1 .0) (t .1 .1 .1 .0))
+Gives t l r = (g : Graph) (ks : List Binding) (tb : Tables) → (machineBy g ks tb l, r) ≡ coded (repeatOver (machineBy g ks tb (t .0)) (t .1 .0) (t .1 .1 .0) (t .1 .1 .1 .0))
 
 abbrev Leaves : Effect this
-Leaves h t h₁ r = (machineOf (h₁ .machine), r) ≡ coded (repeatOver (machineOf (h .machine)) (t .0) (t .1 .0) (t .1 .1 .0))
+Leaves h t h₁ r = (scannerOf h₁, r) ≡ coded (repeatOver (scannerOf h) (t .0) (t .1 .0) (t .1 .1 .0))
 
 pub keymap-repeat-over-spec : {M : Type 1} → stated.statement M
 unfolding code.routine
 keymap-repeat-over-spec 𝓤 H 𝓜 𝓖 𝓡 =
     proves 𝓤 H 𝓜 𝓖 𝓡 (tripleOf 𝓤 H (𝓖 .A) mine.signature (mine.spec 𝓤 H (𝓖 .A) (𝓜 .mem) (𝓡 .run))) (Method this 𝓤 H (𝓖 .A) Gives) code.env #mine code.function (code.unfolded 𝓤 H 𝓜 𝓡)
-    #method method.routine code.calls-keymap·coded·repeat-over (theorem.met 𝓤 H 𝓜 𝓖 𝓡) (meets this 𝓤 H (𝓖 .A) Gives Leaves (λ h t l r e. e (graphOf (h .machine .map .graph)) (tablesIn (h .machine .map .tables .words))) #method)
+    #method method.routine code.calls-keymap·coded·repeat-over (theorem.met 𝓤 H 𝓜 𝓖 𝓡) (meets this 𝓤 H (𝓖 .A) Gives Leaves (λ h t l r e. e (graphOf (h .machine .map .graph)) (callsIn (h .machine .map .kept) (h .kept)) (tablesIn (h .machine .map .tables .words))) #method)

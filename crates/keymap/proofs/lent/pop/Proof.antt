@@ -1,12 +1,14 @@
 -- The live state alone is loaded and stored, by `Walk`.
 use mathlib.Core.Path.{_≡_}
-use mathlib.Core.List.{[], _∷_}
+use mathlib.Core.List.{[], _∷_, List}
+use Rattle.rules.specs.Values.{Binding}
 use Rattle.rules.specs.Tables.{Tables}
 use Rattle.rules.specs.Graph.{Graph}
 use Rattle.rules.specs.Calls.{graphKind, call, Pop}
 use Rattle.keyparts.specs.View.{graphOf}
 use Rattle.keytables.specs.View.{tablesIn}
-use Rattle.keymachine.specs.View.{machineBy, machineOf, popOf}
+use Rattle.keptcalls.specs.View.{callsIn}
+use Rattle.keymachine.specs.View.{machineBy, scannerOf, popOf}
 use denote.Triple.Spec.{tripleOf}
 use Rattle.lending.proofs.Spot.{load}
 use Rattle.lending.proofs.Thin.{Call, calling, Promise, Effect}
@@ -26,13 +28,13 @@ this = calling the-live live-pop (load the-live ∷ []) []
 
 -- what the call promises, and what that makes of the scanner
 abbrev Gives : Promise this
-Gives t l r = (g : Graph) (tb : Tables) → (machineBy g tb l, popOf r) ≡ call graphKind (machineBy g tb (t .0)) Pop
+Gives t l r = (g : Graph) (ks : List Binding) (tb : Tables) → (machineBy g ks tb l, popOf r) ≡ call graphKind (machineBy g ks tb (t .0)) Pop
 
 abbrev Leaves : Effect this
-Leaves h t h₁ r = (machineOf (h₁ .machine), popOf r) ≡ call graphKind (machineOf (h .machine)) Pop
+Leaves h t h₁ r = (scannerOf h₁, popOf r) ≡ call graphKind (scannerOf h) Pop
 
 pub pop-spec : {M : Type 1} → stated.statement M
 unfolding code.routine
 pop-spec 𝓤 H 𝓜 𝓖 𝓡 =
     proves 𝓤 H 𝓜 𝓖 𝓡 (tripleOf 𝓤 H (𝓖 .A) mine.signature (mine.spec 𝓤 H (𝓖 .A) (𝓜 .mem) (𝓡 .run))) (Method this 𝓤 H (𝓖 .A) Gives) code.env #mine code.function (code.unfolded 𝓤 H 𝓜 𝓡)
-    #method method.routine code.calls-keymachine·live·Live·pop (theorem.met 𝓤 H 𝓜 𝓖 𝓡) (meets this 𝓤 H (𝓖 .A) Gives Leaves (λ h t l r e. e (graphOf (h .machine .map .graph)) (tablesIn (h .machine .map .tables .words))) #method)
+    #method method.routine code.calls-keymachine·live·Live·pop (theorem.met 𝓤 H 𝓜 𝓖 𝓡) (meets this 𝓤 H (𝓖 .A) Gives Leaves (λ h t l r e. e (graphOf (h .machine .map .graph)) (callsIn (h .machine .map .kept) (h .kept)) (tablesIn (h .machine .map .tables .words))) #method)

@@ -7,6 +7,7 @@ use mathlib.Core.Path.{_≡_, refl, sym, ap, _∙_}
 use mathlib.Core.List.{List}
 use lib.ListN.{length, take}
 use Rattle.rules.specs.Basics.{accept}
+use Rattle.rules.specs.Values.{Binding}
 use Rattle.rules.specs.Run.{readKeys}
 use Rattle.keyparts.specs.View.{graphIn}
 use Rattle.keytables.specs.View.{tablesIn}
@@ -20,7 +21,7 @@ use Rattle.mapfile.proofs.play.play_keys.Tie as tie
 abbrev Inv-loop : tie.InvT-loop
 Inv-loop keys words counts links tables out₀ room budget queue₀ sequences₀ trail₀ state₀ written₀ at₀ out queue sequences trail state written at =
     (written ≤ room) × (length out ≡ length out₀) × ((length queue ≡ 256) × (length sequences ≡ 520) × (length trail ≡ 64))
-    × ((ks : List ℕ) → readKeys keys ≡ accept ks → Playing (graphIn words counts) (tablesIn tables) budget room keys out₀ ks at written (stateOf state (tablesIn tables) queue sequences (take (state .trailed) trail)) out)
+    × ((cs : List Binding) (ks : List ℕ) → readKeys keys ≡ accept ks → Playing (graphIn words counts) cs (tablesIn tables) budget room keys out₀ ks at written (stateOf state (tablesIn tables) queue sequences (take (state .trailed) trail)) out)
 
 abbrev μ-loop : tie.MeasureT-loop
 μ-loop keys words counts links tables out₀ room budget queue₀ sequences₀ trail₀ state₀ written₀ at₀ out queue sequences trail state written at = length keys - at
@@ -34,7 +35,7 @@ loop-holds c =
     let G = graphIn (a .words .now) (a .counts) in
     let T = tablesIn (a .tables .now) in
     let K = a .keys .now in
-    (omega arith, refl, (refl, refl, refl), λ ks h. starts G T (a .budget) (a .room) K (a .out .now) _ _ _ ks (c .fresh .ensures) h)
+    (omega arith, refl, (refl, refl, refl), λ cs ks h. starts G cs T (a .budget) (a .room) K (a .out .now) _ _ _ ks (c .fresh .ensures) h)
 
 read-number-requires : tie.Need-read-number-requires Inv-loop μ-loop
 read-number-requires c κs = search needs
@@ -53,7 +54,7 @@ returns c =
     let K = a .keys .now in
     let L = c .before .before .before .before .loop in
     let x = stateOf (L .state) T (L .queue) (L .sequences) (take (L .state .trailed) (L .trail)) in
-    (tt, λ ks h. played-bad G T (a .budget) (a .room) K (a .out .now) ks (L .at) (L .written) x (L .out) (L .inv .3 ks h) _ (c .before .before .before .loop-test .taken) (sym (ap (readOf K) (c .enum-told .given .1)) ∙ c .before .before .read-number .ensures))
+    (tt, λ cs ks h. played-bad G cs T (a .budget) (a .room) K (a .out .now) ks (L .at) (L .written) x (L .out) (L .inv .3 cs ks h) _ (c .before .before .before .loop-test .taken) (sym (ap (readOf K) (c .enum-told .given .1)) ∙ c .before .before .read-number .ensures))
 
 enum-known-r : tie.Need-enum-known-r Inv-loop μ-loop
 enum-known-r c = search needs
@@ -79,7 +80,7 @@ returns-2 c =
     let q = k .last .1 .1 .1 .1 .0 in
     let sq = k .last .1 .1 .1 .1 .1 .0 in
     let tr = k .last .1 .1 .1 .1 .1 .1 .0 in
-    (tt, λ ks h. key-refused G T (a .budget) (a .room) K (a .out .now) ks (L .at) (L .written) x (L .out) (L .inv .3 ks h) (c .before .before .before .before .before .before .before .before .before .before .loop-test .taken) v next number (k .result) q sq tr (c .before .before .before .before .before .before .before .before .before .before .before .before .before .before .before .pre .1) (k .ensures .1) _ (c .if1 .taken))
+    (tt, λ cs ks h. key-refused G cs T (a .budget) (a .room) K (a .out .now) ks (L .at) (L .written) x (L .out) (L .inv .3 cs ks h) (c .before .before .before .before .before .before .before .before .before .before .loop-test .taken) v next number (k .result) q sq tr (c .before .before .before .before .before .before .before .before .before .before .before .before .before .before .before .pre .1) (k .ensures .1) _ (c .if1 .taken))
 
 slice-aggregate-pairs-size : tie.Need-slice-aggregate-pairs-size Inv-loop μ-loop
 slice-aggregate-pairs-size c = sym (c .before .before .before .before .input-key-or-scratch .ensures .0 .0)
@@ -108,7 +109,7 @@ returns-3 c =
     let q = k .last .1 .1 .1 .1 .0 in
     let sq = k .last .1 .1 .1 .1 .1 .0 in
     let tr = k .last .1 .1 .1 .1 .1 .1 .0 in
-    (tt, λ ks h. key-full G T (a .budget) (a .room) K (a .out .now) ks (L .at) (L .written) x (L .out) (L .inv .3 ks h) (c .before .before .before .before .before .before .before .before .before .before .before .before .before .before .loop-test .taken) v next number (k .result) q sq tr (c .before .before .before .before .before .before .before .before .before .before .before .before .before .before .before .before .before .before .before .pre .1) (k .ensures .1) _ (c .before .before .before .before .if1 .left) (omega (arith, c .before .pairs-size .ensures, c .if2 .taken, L .inv .0)))
+    (tt, λ cs ks h. key-full G cs T (a .budget) (a .room) K (a .out .now) ks (L .at) (L .written) x (L .out) (L .inv .3 cs ks h) (c .before .before .before .before .before .before .before .before .before .before .before .before .before .before .loop-test .taken) v next number (k .result) q sq tr (c .before .before .before .before .before .before .before .before .before .before .before .before .before .before .before .before .before .before .before .pre .1) (k .ensures .1) _ (c .before .before .before .before .if1 .left) (omega (arith, c .before .pairs-size .ensures, c .if2 .taken, L .inv .0)))
 
 slice-aggregate-store-pairs : tie.Need-slice-aggregate-store-pairs Inv-loop μ-loop
 slice-aggregate-store-pairs c = sym (c .before .before .before .before .before .before .before .before .input-key-or-scratch .ensures .0 .0)
@@ -142,7 +143,7 @@ loop-again c =
     let sq = k .last .1 .1 .1 .1 .1 .0 in
     let tr = k .last .1 .1 .1 .1 .1 .1 .0 in
     let put = c .before .before .store-pairs in
-    (omega (arith, put .ensures .0, c .before .before .before .before .before .before .pairs-size .ensures, c .before .before .before .before .before .if2 .left, L .inv .0), omega (arith, put .kept .0, L .inv .1), k .ensures .0, λ ks h. key-played G T (a .budget) (a .room) K (a .out .now) ks (L .at) (L .written) x (L .out) (L .inv .3 ks h) (c .before .before .before .before .before .before .before .before .before .before .before .before .before .before .before .before .before .before .before .loop-test .taken) v next number (k .result) q sq tr (c .before .before .before .before .before .before .before .before .before .before .before .before .before .before .before .before .before .before .before .before .before .before .before .before .pre .1) (k .ensures .1) (put .last .0) (put .result) (c .before .before .before .before .before .before .before .before .before .if1 .left) (omega (arith, c .before .before .before .before .before .before .pairs-size .ensures, c .before .before .before .before .before .if2 .left, L .inv .0)) (c .before .before .before .before .before .before .before .before .before .before .before .before .before .before .before .before .before .before .before .before .before .before .before .before .pre .0 .3) (put .ensures .0) (put .ensures .1))
+    (omega (arith, put .ensures .0, c .before .before .before .before .before .before .pairs-size .ensures, c .before .before .before .before .before .if2 .left, L .inv .0), omega (arith, put .kept .0, L .inv .1), k .ensures .0, λ cs ks h. key-played G cs T (a .budget) (a .room) K (a .out .now) ks (L .at) (L .written) x (L .out) (L .inv .3 cs ks h) (c .before .before .before .before .before .before .before .before .before .before .before .before .before .before .before .before .before .before .before .loop-test .taken) v next number (k .result) q sq tr (c .before .before .before .before .before .before .before .before .before .before .before .before .before .before .before .before .before .before .before .before .before .before .before .before .pre .1) (k .ensures .1) (put .last .0) (put .result) (c .before .before .before .before .before .before .before .before .before .if1 .left) (omega (arith, c .before .before .before .before .before .before .pairs-size .ensures, c .before .before .before .before .before .if2 .left, L .inv .0)) (c .before .before .before .before .before .before .before .before .before .before .before .before .before .before .before .before .before .before .before .before .before .before .before .before .pre .0 .3) (put .ensures .0) (put .ensures .1))
 
 same-length-4 : tie.Need-same-length-4 Inv-loop μ-loop
 same-length-4 c = omega (arith, c .before .loop .inv .1)
@@ -155,7 +156,7 @@ returns-4 c =
     let K = a .keys .now in
     let L = c .before .loop in
     let x = stateOf (L .state) T (L .queue) (L .sequences) (take (L .state .trailed) (L .trail)) in
-    (L .inv .0, λ ks h. played-all G T (a .budget) (a .room) K (a .out .now) ks (L .at) (L .written) x (L .out) (L .inv .3 ks h) (c .loop-test .left))
+    (L .inv .0, λ cs ks h. played-all G cs T (a .budget) (a .room) K (a .out .now) ks (L .at) (L .written) x (L .out) (L .inv .3 cs ks h) (c .loop-test .left))
 
 pub play-keys-spec : {M : Type 1} → statement M
 play-keys-spec =

@@ -18,7 +18,7 @@ same-length : tie.Need-same-length
 same-length c = search needs
 
 returns : tie.Need-returns
-returns c = store-one (c .before .args .out .now) (c .before .args .at) (c .before .args .value) (c .before .pre) _ (written-one _ (c .if1 .taken))
+returns c = store-one (c .before .args .out .now) (c .before .args .at) (c .before .args .value) (c .before .pre .0) _ (written-one _ (c .if1 .taken))
 
 add-out : tie.Need-add-out
 add-out c = search needs
@@ -42,7 +42,7 @@ same-length-2 : tie.Need-same-length-2
 same-length-2 c = simp length-set
 
 returns-2 : tie.Need-returns-2
-returns-2 c = store-two (c .before .before .args .out .now) (c .before .before .args .at) (c .before .before .args .value) (c .before .before .pre) _ _ (bytes-two _ (c .before .if1 .left) (c .if2 .taken))
+returns-2 c = store-two (c .before .before .args .out .now) (c .before .before .args .at) (c .before .before .args .value) (c .before .before .pre .0) _ _ (bytes-two _ (c .before .if1 .left) (c .if2 .taken))
 
 add-out-3 : tie.Need-add-out-3
 add-out-3 c = search needs
@@ -78,7 +78,7 @@ same-length-3 : tie.Need-same-length-3
 same-length-3 c = simp length-set
 
 returns-3 : tie.Need-returns-3
-returns-3 c = store-three (c .before .before .args .out .now) (c .before .before .args .at) (c .before .before .args .value) (c .before .before .pre) _ _ _ (bytes-three _ (c .if2 .left))
+returns-3 c = store-three (c .before .before .args .out .now) (c .before .before .args .at) (c .before .before .args .value) (c .before .before .pre .0) _ _ _ (bytes-three _ (c .if2 .left))
 
 pub store-spec : {M : Type 1} → statement M
 store-spec =

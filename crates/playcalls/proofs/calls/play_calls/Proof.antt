@@ -1,15 +1,16 @@
--- Each call takes a byte at least, so as many turns as there are bytes are enough.
+-- Each call takes a byte at least, so as many turns as there are bytes are enough. The kept words keep their length in each.
 use Prim.Native.Nat.{_≤_}
+use mathlib.Core.Path.{_≡_}
 use lib.ListN.{length}
 use borrow.Author.Needs.{needs}
 use Rattle.playcalls.proofs.calls.play_calls.Statement.{statement}
 use Rattle.playcalls.proofs.calls.play_calls.Tie as tie
 
 abbrev Inv-loop : tie.InvT-loop
-Inv-loop s machine₀ at₀ left₀ machine at left = left ≤ length s
+Inv-loop s kept₀ machine₀ at₀ left₀ kept machine at left = (length kept ≡ 18432) × (left ≤ length s)
 
 abbrev μ-loop : tie.MeasureT-loop
-μ-loop s machine₀ at₀ left₀ machine at left = left
+μ-loop s kept₀ machine₀ at₀ left₀ kept machine at left = left
 
 loop-holds : tie.Need-loop-holds Inv-loop μ-loop
 loop-holds c = search needs

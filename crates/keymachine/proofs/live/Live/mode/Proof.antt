@@ -6,7 +6,7 @@ use Rattle.keymachine.proofs.live.Live.mode.Tie as tie
 
 returns : tie.Need-returns
 unfolding mode-call
-returns c = λ g t. refl
+returns c = λ g ks t. refl
 
 pub mode-spec : {M : Type 1} → statement M
 mode-spec = tie.close (tie.spec returns)

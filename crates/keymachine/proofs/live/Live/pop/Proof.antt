@@ -20,8 +20,8 @@ long : (c : tie.After-s) → length (c .before .args .self .queue) ≡ 256
 long c = search needs
 
 returns : tie.Need-returns
-returns c g t = let m = c .before .before .before .args .self in
-    pop-none (machineBy g t m) (m .state .queued) (c .before .least-of .result) (m .queue) refl (long (c .before .before)) (c .before .least-of .ensures) (c .if1 .taken)
+returns c g ks t = let m = c .before .before .before .args .self in
+    pop-none (machineBy g ks t m) (m .state .queued) (c .before .least-of .result) (m .queue) refl (long (c .before .before)) (c .before .least-of .ensures) (c .if1 .taken)
 
 sub-rest : tie.Need-sub-rest
 sub-rest c = search needs
@@ -45,10 +45,10 @@ unpack-requires : tie.Need-unpack-requires
 unpack-requires c κs = search needs
 
 returns-2 : tie.Need-returns-2
-returns-2 c g t = let m = c .before .before .before .before .before .before .before .before .before .args .self in let l = long (c .before .before .before .before .before .before .before .before) in let n = c .before .before .before .before .before .before .before .least-of in let o = c .before .before .copy in
+returns-2 c g ks t = let m = c .before .before .before .before .before .before .before .before .before .args .self in let l = long (c .before .before .before .before .before .before .before .before) in let n = c .before .before .before .before .before .before .before .least-of in let o = c .before .before .copy in
     let h : 0 + (n .result - 1) ≤ length (m .queue) = omega (arith, l, n .ensures) in
     let k : 1 + (n .result - 1) ≤ length (m .queue) = omega (arith, l, n .ensures, c .before .before .before .before .before .before .if1 .left) in
-    rw (c .unpack .ensures) (pop-some (machineBy g t m) (m .state .queued) (n .result) (m .queue) refl l (n .ensures) (o .last .0) (c .before .before .before .before .before .before .if1 .left)
+    rw (c .unpack .ensures) (pop-some (machineBy g ks t m) (m .state .queued) (n .result) (m .queue) refl l (n .ensures) (o .last .0) (c .before .before .before .before .before .before .if1 .left)
     (shifted (m .queue) (o .last .0) (n .result) l (omega (arith, n .ensures)) (o .ensures ∙ copied-fits (m .queue) 0 (m .queue) 1 (n .result - 1) h k)))
 
 pub pop-spec : {M : Type 1} → statement M

@@ -17,7 +17,7 @@ use Rattle.keymachine.proofs.live.Live.repeat.Statement.{statement}
 use Rattle.keymachine.proofs.live.Live.repeat.Tie as tie
 
 returns : tie.Need-returns
-returns c g t = let a = c .before .args in repeat-over (machineBy g t (a .self)) (a .sequence) (overOf (a .over)) (c .if1 .taken)
+returns c g ks t = let a = c .before .args in repeat-over (machineBy g ks t (a .self)) (a .sequence) (overOf (a .over)) (c .if1 .taken)
 
 fetch-at-requires : tie.Need-fetch-at-requires
 fetch-at-requires c κs = search needs
@@ -40,8 +40,8 @@ add-queued : tie.Need-add-queued
 add-queued c = omega (arith, few (c .before), c .least-of .ensures)
 
 returns-2 : tie.Need-returns-2
-returns-2 c g t = let a = c .before .before .before .before .before .before .before .args in let m = a .self in let q = a .sequence in let o = overOf (a .over) in let f = c .before .before .fetch-at in let k = c .before .least-of in let s = long (c .before .before .before) in let h : q < 8 = c .before .before .before .before .before .before .if1 .left in
-    repeat-full (machineBy g t m) q o h (fetch o (getD (trackersOf (m .sequences)) q noTracker)) (f .result) (k .result) refl
+returns-2 c g ks t = let a = c .before .before .before .before .before .before .before .args in let m = a .self in let q = a .sequence in let o = overOf (a .over) in let f = c .before .before .fetch-at in let k = c .before .least-of in let s = long (c .before .before .before) in let h : q < 8 = c .before .before .before .before .before .before .if1 .left in
+    repeat-full (machineBy g ks t m) q o h (fetch o (getD (trackersOf (m .sequences)) q noTracker)) (f .result) (k .result) refl
     (fetched-long (m .sequences) (f .last .0) q (f .result) o (s .0) (f .ensures .0) h (f .ensures .1))
     (k .ensures ∙ sym (length-pairs (m .state .queued) (m .queue) ∙ ap (min (m .state .queued)) (s .1))) (c .if2 .taken)
 
@@ -86,7 +86,7 @@ two-copies old src n k from l h s =
     ap (λ (z : List ℕ). copied z 0 src from n) e ∙ copied-fits (paste old n (drop 0 old) k) 0 src from n m s
 
 returns-3 : tie.Need-returns-3
-returns-3 c g t = let a = c .before .before .before .before .before .before .before .before .before .before .before .before .before .before .before .before .args in let m = a .self in let q = a .sequence in let o = overOf (a .over) in let f = c .before .before .before .before .before .before .before .before .before .before .before .fetch-at in let k = c .before .before .before .before .before .before .before .before .before .before .least-of in let s = long (c .before .before .before .before .before .before .before .before .before .before .before .before) in let h : q < 8 = c .before .before .before .before .before .before .before .before .before .before .before .before .before .before .before .if1 .left in
+returns-3 c g ks t = let a = c .before .before .before .before .before .before .before .before .before .before .before .before .before .before .before .before .args in let m = a .self in let q = a .sequence in let o = overOf (a .over) in let f = c .before .before .before .before .before .before .before .before .before .before .before .fetch-at in let k = c .before .before .before .before .before .before .before .before .before .before .least-of in let s = long (c .before .before .before .before .before .before .before .before .before .before .before .before) in let h : q < 8 = c .before .before .before .before .before .before .before .before .before .before .before .before .before .before .before .if1 .left in
     let l : f .result + k .result ≤ 256 = c .before .before .before .before .before .before .before .before .before .if2 .left in
     let u : Tracker = fetch o (getD (trackersOf (m .sequences)) q noTracker) in
     let r : q * 65 + 1 + f .result ≤ length (f .last .0) = omega (arith, f .ensures .0, few (c .before .before .before .before .before .before .before .before .before .before .before)) in
@@ -94,7 +94,7 @@ returns-3 c g t = let a = c .before .before .before .before .before .before .bef
     = c .before .copy2 .ensures ∙ ap (λ (z : List ℕ). copied z 0 (f .last .0) (q * 65 + 1) (f .result)) (c .before .before .before .before .before .copy .ensures) ∙ two-copies (m .queue) (f .last .0) (f .result) (k .result) (q * 65 + 1) (s .1) l r in
     let eQ : pairsOf (f .result + k .result) (c .before .copy2 .last .0) ≡ u .pairs ++ pairsOf (m .state .queued) (m .queue)
     = rw e (built-queue (m .sequences) (f .last .0) q (f .result) o (s .0) (f .ensures .0) h (f .ensures .1) (m .queue) (m .state .queued) (k .result) (s .1) (k .ensures) l) in
-    repeat-done (machineBy g t m) q o h u (f .result) (k .result) refl
+    repeat-done (machineBy g ks t m) q o h u (f .result) (k .result) refl
     (fetched-long (m .sequences) (f .last .0) q (f .result) o (s .0) (f .ensures .0) h (f .ensures .1))
     (k .ensures ∙ sym (length-pairs (m .state .queued) (m .queue) ∙ ap (min (m .state .queued)) (s .1))) (pairsOf (f .result + k .result) (c .before .copy2 .last .0)) (trackersOf (f .last .0)) l eQ
     (fetched-sequences (m .sequences) (f .last .0) q (f .result) o (s .0) (f .ensures .0) h (f .ensures .1))

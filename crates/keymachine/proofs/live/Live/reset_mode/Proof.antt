@@ -21,16 +21,16 @@ goto-mode-or-scratch-requires : tie.Need-goto-mode-or-scratch-requires
 goto-mode-or-scratch-requires c κs = let z = sized (c .before .before .before .before .before) in (z .0, z .1, c .before .before .before .before .break-all .ensures .0)
 
 returns : tie.Need-returns
-returns c g = let a = c .before .before .before .before .before .before .before .before .before .before .before .before .args in let m = a .self in let tb = tablesIn (a .t2 .words) in let r = c .before .before .goto-mode-or-scratch in let b = c .before .before .before .before .before .before .before .break-all in let tr = take (m .state .trailed) (m .trail) in
+returns c g ks = let a = c .before .before .before .before .before .before .before .before .before .before .before .before .args in let m = a .self in let tb = tablesIn (a .t2 .words) in let r = c .before .before .goto-mode-or-scratch in let b = c .before .before .before .before .before .before .before .break-all in let tr = take (m .state .trailed) (m .trail) in
     let x = stateOf (r .result .state) tb (r .last .1 .0) (r .last .1 .1 .0) tr in
-    reset-refused (machineBy g tb m) (r .result .refusal) x
+    reset-refused (machineBy g ks tb m) (r .result .refusal) x
     (reset-is g (outcome (r .result .refusal) x) (m .state .place) (m .state .mode) tb (contextOf (m .state .context)) (pairsOf (m .state .queued) (m .queue)) tr (trackersOf (m .sequences)) (trackersOf (b .last .0)) (b .ensures .1)
     (r .ensures .1 g tr)) (c .if1 .taken)
 
 returns-2 : tie.Need-returns-2
-returns-2 c g = let a = c .before .before .before .before .before .before .before .before .before .before .before .before .before .args in let m = a .self in let tb = tablesIn (a .t2 .words) in let r = c .before .before .before .goto-mode-or-scratch in let b = c .before .before .before .before .before .before .before .before .break-all in let tr = take (m .state .trailed) (m .trail) in
+returns-2 c g ks = let a = c .before .before .before .before .before .before .before .before .before .before .before .before .before .args in let m = a .self in let tb = tablesIn (a .t2 .words) in let r = c .before .before .before .goto-mode-or-scratch in let b = c .before .before .before .before .before .before .before .before .break-all in let tr = take (m .state .trailed) (m .trail) in
     let x = stateOf (r .result .state) tb (r .last .1 .0) (r .last .1 .1 .0) tr in
-    reset-done (machineBy g tb m) (r .result .refusal) x
+    reset-done (machineBy g ks tb m) (r .result .refusal) x
     (reset-is g (outcome (r .result .refusal) x) (m .state .place) (m .state .mode) tb (contextOf (m .state .context)) (pairsOf (m .state .queued) (m .queue)) tr (trackersOf (m .sequences)) (trackersOf (b .last .0)) (b .ensures .1)
     (r .ensures .1 g tr)) (c .before .if1 .left)
 

@@ -4,6 +4,7 @@ use Rattle.rules.specs.Tables.{noTables}
 use Rattle.rules.specs.Calls.{fresh}
 use Rattle.keyvalues.specs.View.{sizesIn}
 use Rattle.keytables.specs.View.{tablesIn}
+use Rattle.keptcalls.specs.View.{callsIn}
 use borrow.Author.Needs.{needs}
 use Rattle.keymachine.proofs.machine.ModalMachine.fresh.Statement.{statement}
 use Rattle.keymachine.proofs.machine.ModalMachine.fresh.Tie as tie
@@ -18,8 +19,8 @@ over-requires : tie.Need-over-requires
 over-requires c κs = search needs
 
 returns : tie.Need-returns
-unfolding fresh noTables tablesIn sizesIn
-returns c = c .over .ensures ∙ rw (c .before .before .fresh .ensures, c .before .empty .ensures)
+unfolding fresh noTables tablesIn sizesIn callsIn
+returns c ws = c .over .ensures ws ∙ rw (c .before .before .fresh .ensures, c .before .empty .ensures)
 
 pub fresh-spec : {M : Type 1} → statement M
 fresh-spec = tie.close (tie.spec fresh-requires empty-requires over-requires returns)

@@ -3,6 +3,7 @@ use mathlib.Core.Path.{refl, _∙_}
 use Rattle.rules.specs.Tables.{tablesValid}
 use Rattle.rules.specs.Calls.{fresh}
 use Rattle.keytables.specs.View.{wholeTables, tablesIn}
+use Rattle.keptcalls.specs.View.{callsIn}
 use Rattle.keytables.proofs.Packs.{packed-valid, packed-words}
 use Rattle.keymachine.specs.View.{machineOf}
 use Rattle.keymachine.proofs.Calls.{opened, not-opened}
@@ -20,14 +21,14 @@ over-requires : tie.Need-over-requires
 over-requires c κs = search needs
 
 returns : tie.Need-returns
-unfolding fresh
-returns c = let a = c .before .before .before .before .before .args in let p = c .before .before .before .before .pack in let t = wholeTables (a .tables) in let w = tablesIn (p .result .words .words) in
-    opened _ (machineOf (c .over .result)) t (p .result .valid) (packed-valid w t (p .result .valid) (tablesValid t) (p .ensures)) (c .before .before .before .if1 .taken)
-    (c .over .ensures ∙ rw (c .before .before .fresh .ensures, packed-words w t (p .result .valid) (tablesValid t) (p .ensures) (c .before .before .before .if1 .taken)))
+unfolding fresh callsIn
+returns c ws = let a = c .before .before .before .before .before .args in let p = c .before .before .before .before .pack in let t = wholeTables (a .tables) in let w = tablesIn (p .result .words .words) in
+    opened _ (machineOf ws (c .over .result)) t (p .result .valid) (packed-valid w t (p .result .valid) (tablesValid t) (p .ensures)) (c .before .before .before .if1 .taken)
+    (c .over .ensures ws ∙ rw (c .before .before .fresh .ensures, packed-words w t (p .result .valid) (tablesValid t) (p .ensures) (c .before .before .before .if1 .taken)))
 
 returns-2 : tie.Need-returns-2
-returns-2 c = let a = c .before .before .args in let p = c .before .pack in let t = wholeTables (a .tables) in
-    not-opened _ (machineOf (a .self)) t (p .result .valid) (packed-valid (tablesIn (p .result .words .words)) t (p .result .valid) (tablesValid t) (p .ensures)) (c .if1 .left) refl
+returns-2 c ws = let a = c .before .before .args in let p = c .before .pack in let t = wholeTables (a .tables) in
+    not-opened _ (machineOf ws (a .self)) t (p .result .valid) (packed-valid (tablesIn (p .result .words .words)) t (p .result .valid) (tablesValid t) (p .ensures)) (c .if1 .left) refl
 
 pub open-spec : {M : Type 1} → statement M
 open-spec = tie.close (tie.spec pack-requires fresh-requires over-requires returns returns-2)

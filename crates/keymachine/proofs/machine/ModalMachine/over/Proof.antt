@@ -1,7 +1,7 @@
 -- The live state is fresh under whatever tables it is put.
 use Prim.Native.Nat.{ℕ}
 use mathlib.Core.Path.{ap}
-use Rattle.keyparts.specs.View.{graphOf}
+use Rattle.keybind.specs.View.{mapWith}
 use Rattle.keytables.specs.View.{tablesIn}
 use Rattle.rules.specs.KeyLoop.{State}
 use borrow.Author.Needs.{needs}
@@ -12,7 +12,7 @@ fresh-requires : tie.Need-fresh-requires
 fresh-requires c κs = search needs
 
 returns : tie.Need-returns
-returns c = let m = c .before .args .map in ap (λ (x : State ℕ). record { bindings = graphOf (m .graph); state = x }) (c .fresh .ensures (tablesIn (m .tables .words)))
+returns c ws = let m = c .before .args .map in ap (λ (x : State ℕ). mapWith ws m x) (c .fresh .ensures (tablesIn (m .tables .words)))
 
 pub over-spec : {M : Type 1} → statement M
 over-spec = tie.close (tie.spec fresh-requires returns)

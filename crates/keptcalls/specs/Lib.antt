@@ -1,0 +1,2 @@
+-- What the words of kept calls mean.
+pub mod View

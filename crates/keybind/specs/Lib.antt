@@ -1,0 +1,2 @@
+-- What a map means.
+pub mod View

@@ -1,0 +1,1 @@
+-- The contracts cite the rules and the views of the crates below.
