@@ -1,4 +1,4 @@
--- The kept calls of an array of words: how many they are, which is at a place, what one more does, and what a copy has. The words
+-- The kept calls of an array of words: how many they are, what one more does, and what a copy has. The words
 -- are a table of blocks, and the first n calls look at the first n blocks alone.
 use Prim.Native.Nat.{ℕ, zero, suc, _+_, _*_, _≤_, _<_, min}
 use mathlib.Core.Path.{_≡_, refl, sym, ap, _∙_}
@@ -7,8 +7,8 @@ use mathlib.Core.List.{List, [], _∷_, _++_, map, map-append}
 use native.Mathlib.Omega.{arith}
 use native.Mathlib.Numerals.{add-one}
 use lib.Dec.{T}
-use lib.ListN.{length, take, drop, getD, length-map, length-take, length-drop, drop-of-length-le}
-use lib.Seq.{take-suc-set, take-take, take-nil, getD-take, drop-cons, paste, length-paste, take-paste}
+use lib.ListN.{length, take, drop, length-map, length-take, length-drop}
+use lib.Seq.{take-suc-set, take-take, take-nil, paste, length-paste, take-paste}
 use borrow.Author.Tests.{lt-ltb, le-ltb}
 use Rattle.rules.specs.Basics.{Result, accept, _>>=_, unless}
 use Rattle.rules.specs.Values.{Binding, Maps, Prefixes, mapValid, prefixValid, bindingValid}
@@ -21,7 +21,7 @@ use Rattle.keyvalues.specs.View.{copied, resultBy}
 use Rattle.keyvalues.proofs.Copies.{copied-fits}
 use Rattle.keyvalues.proofs.Words.{take-min}
 use Rattle.keytables.specs.View.{blocks}
-use Rattle.keytables.proofs.Blocks.{length-blocks, getD-blocks, getD-mapped, blocks-part}
+use Rattle.keytables.proofs.Blocks.{length-blocks, blocks-part}
 use Rattle.keptcalls.specs.View.{callAt, callsIn, machineWith, graphPart, Keeps}
 
 pub calls-none : (ws : List ℕ) → callsIn 0 ws ≡ []
@@ -33,28 +33,9 @@ unfolding callsIn
 calls-count n ws = length-map (take n (blocks 18 1024 ws)) callAt ∙ length-take n (blocks 18 1024 ws) ∙ rw (length-blocks 18 1024 ws)
 
 -- a count past the end is all of them
-pub calls-least : (n : ℕ) (ws : List ℕ) → callsIn (min n 1024) ws ≡ callsIn n ws
+calls-least : (n : ℕ) (ws : List ℕ) → callsIn (min n 1024) ws ≡ callsIn n ws
 unfolding callsIn
 calls-least n ws = ap (map callAt) (take-min n 1024 (blocks 18 1024 ws) (length-blocks 18 1024 ws))
-
--- ---- reading: a loop over the calls goes from one to the next
-module _ (n : ℕ) (ws : List ℕ) (i : ℕ) where
-  pub calls-at : (d : Binding) → i < min n 1024 → getD (callsIn n ws) i d ≡ callAt (take 18 (drop (i * 18) ws))
-  unfolding callsIn
-  calls-at d h =
-      let k : i < n = omega arith in
-      let m : i < 1024 = omega arith in
-      let l : i < length (take n (blocks 18 1024 ws)) = omega (arith, length-take n (blocks 18 1024 ws), length-blocks 18 1024 ws) in
-      getD-mapped callAt (take n (blocks 18 1024 ws)) i d [] l ∙ ap callAt (getD-take n (blocks 18 1024 ws) i [] k ∙ getD-blocks 18 1024 ws i m)
-
-  pub calls-cons : i < min n 1024 → drop i (callsIn n ws) ≡ callAt (take 18 (drop (i * 18) ws)) ∷ drop (i + 1) (callsIn n ws)
-  calls-cons h =
-      let d = callAt [] in
-      let l : i < length (callsIn n ws) = omega (arith, calls-count n ws) in
-      rw (add-one i, drop-cons (callsIn n ws) i d l, calls-at d h)
-
-  pub calls-end : min n 1024 ≤ i → drop i (callsIn n ws) ≡ []
-  calls-end h = let l : length (callsIn n ws) ≤ i = omega (arith, calls-count n ws) in drop-of-length-le (callsIn n ws) l
 
 -- ---- one call more: its block was lent and came back
 pub calls-more : (ws : List ℕ) (i k : ℕ) (new : List ℕ) → i < 1024 → length ws ≡ 18432 → k ≡ 18 → length new ≡ length (take k (drop (i * 18) ws))
@@ -96,7 +77,7 @@ calls-first : (n : ℕ) (ws : List ℕ) → n ≤ 1024 → callsIn n ws ≡ map 
 unfolding callsIn
 calls-first n ws h = ap (map callAt) (take-blocks 18 1024 n ws h ∙ sym (front-blocks 18 n ws))
 
-pub calls-front : (n : ℕ) (xs ys : List ℕ) → take (min n 1024 * 18) xs ≡ take (min n 1024 * 18) ys → callsIn n xs ≡ callsIn n ys
+calls-front : (n : ℕ) (xs ys : List ℕ) → take (min n 1024 * 18) xs ≡ take (min n 1024 * 18) ys → callsIn n xs ≡ callsIn n ys
 calls-front n xs ys e = in-front xs ∙ ap (λ (l : List ℕ). map callAt (blocks 18 (min n 1024) l)) e ∙ sym (in-front ys)
   where
     in-front : (ws : List ℕ) → callsIn n ws ≡ map callAt (blocks 18 (min n 1024) (take (min n 1024 * 18) ws))

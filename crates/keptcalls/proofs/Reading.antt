@@ -17,7 +17,7 @@ unfolding partsIn
 length-parts [] = refl
 length-parts (w ∷ ps) = omega (arith, length-parts ps)
 
-pub parts-at : (ps : List ℕ) (i : ℕ) (d : Part) → i < 2 * length ps → getD (partsIn ps) i d ≡ partAt (halfOf i (getD ps (i / 2) 0))
+parts-at : (ps : List ℕ) (i : ℕ) (d : Part) → i < 2 * length ps → getD (partsIn ps) i d ≡ partAt (halfOf i (getD ps (i / 2) 0))
 unfolding partsIn halfOf
 parts-at [] i d h = absurd (omega arith)
 parts-at (w ∷ ps) zero d h = refl

@@ -45,7 +45,7 @@ module _ (out : List ℕ) (at v : ℕ) (fits : at + length (bytesOf v) ≤ lengt
 
 -- ---- what is laid
 
-pub length-laid : (at : ℕ) (bs out : List ℕ) → at + length bs ≤ length out → length (laid at bs out) ≡ length out
+length-laid : (at : ℕ) (bs out : List ℕ) → at + length bs ≤ length out → length (laid at bs out) ≡ length out
 unfolding laid
 length-laid at bs out h = simp length-append (omega (arith, length-take-le at out (omega arith), length-drop (at + length bs) out))
 
@@ -73,7 +73,7 @@ module _ (at : ℕ) (xs bs out : List ℕ) (h : at + length xs + length bs ≤ l
   unfolding laid
   laid-laid = rw (take-at front (drop end out) end length-front, behind, append-assoc (take at out) xs bs)
 
-pub laid-none : (at : ℕ) (out : List ℕ) → laid at [] out ≡ out
+laid-none : (at : ℕ) (out : List ℕ) → laid at [] out ≡ out
 unfolding laid
 laid-none at out = rw (add-zero at, append-nil (take at out)) (take-append-drop at out)
 

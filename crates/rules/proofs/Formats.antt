@@ -22,7 +22,7 @@ use Rattle.rules.proofs.Tests.{T-and, and-T, eqb-same}
 unfoldable pub small : List ℕ → Bool
 small ns = every (λ n. leb n largest) ns
 
-pub bytes-append : (ms ns : List ℕ) → inBytes (ms ++ ns) ≡ inBytes ms ++ inBytes ns
+bytes-append : (ms ns : List ℕ) → inBytes (ms ++ ns) ≡ inBytes ms ++ inBytes ns
 unfolding inBytes flatMap
 bytes-append [] ns = refl
 bytes-append (m ∷ ms) ns = rw (bytes-append ms ns) (sym (append-assoc (bytesOf m) (inBytes ms) (inBytes ns)))
