@@ -48,6 +48,9 @@ static const uint8_t map[] = {
 /* A further mapping in mode 0: key x; its step: LABEL. */
 static const uint8_t binding[] = {0, 0, 1, 0, 0, 'x', 0, 1, LABEL, 0, 0, 0};
 
+/* And another for the same action: key l. */
+static const uint8_t another[] = {0, 0, 1, 0, 0, 'l', 0, 1, LABEL, 0, 0, 0};
+
 static const char *name_of(unsigned action) {
     for (size_t i = 0; i < NAMES; i++)
         if (names[i].action == action)
@@ -111,7 +114,8 @@ static void tell_mode(void) {
     printf("mode %u\n", (unsigned)keymap_mode(machine));
 }
 
-/* The help screen: in which mode a key does what. */
+/* The help screen: in which mode a key does what. Of several keys for one action the first to be bound is shown, its node being
+   the lowest; so two scanners with the same map show the same. */
 static void tell_help(void) {
     for (size_t i = 0; i < NAMES; i++) {
         int bound = 0;
@@ -154,6 +158,8 @@ int main(void) {
     tell("bind, cut off", keymap_bind(machine, binding, sizeof binding - 1));
     tell("bind", keymap_bind(machine, binding, sizeof binding));
     press_all("x");
+    tell("bind another", keymap_bind(machine, another, sizeof another));
+    press_all("l");
     printf("%s\n", KEYMAP_FREE(keymap_free(machine)) > 0 ? "nodes are left" : "no node is left");
 
     /* A budget of 0 refuses any key; pressed again, the 5 counts once. */

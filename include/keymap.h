@@ -54,7 +54,7 @@ extern "C" {
  *     keymap_repeat_over  34 KiB
  *     keymap_reset        14 KiB
  *     keymap_mode          1 KiB
- *     keymap_find         33 KiB
+ *     keymap_find          1 KiB
  *     keymap_free          1 KiB
  *     keymap_write         2 KiB
  *     keymap_run         234 KiB
@@ -150,8 +150,10 @@ uint64_t keymap_reset(keymap_machine *machine);
 uint64_t keymap_mode(const keymap_machine *machine);
 
 /*
- * Looks for a binding of the mode that does the action, for a help screen. It may find one that a later binding replaced.
- * The result is (node + 1) * 32 for the node of such a binding, 0 if there is none, or the refusal: RANGE (a mode over 15).
+ * Looks for a binding of the mode that has the action, for a help screen: the one whose node has the lowest number. Nodes are
+ * numbered as they are made, so machines with the same map give the same. A flagged binding counts, and so does one whose keys
+ * lead elsewhere by now. One that only enters a mode gives action 0 but does not have it.
+ * The result is (node + 1) * 32, or 0 if no node has the action, or the refusal: RANGE (a mode over 15).
  */
 uint64_t keymap_find(const keymap_machine *machine, uint16_t mode, uint16_t action);
 

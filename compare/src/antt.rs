@@ -5,6 +5,7 @@ use std::fmt::Write;
 
 use crate::calls::{Answer, Call, ClassEntry, Context, Event, ModeEntry, Pair, Part, Repeat, Rule, Step, Tables};
 use crate::cases::Case;
+use crate::finds;
 use crate::graph::{Graph, Node, NodeAction};
 use crate::play::{Played, Seen};
 
@@ -130,12 +131,22 @@ pub fn play_row(name: String, input: &[u8], text: &str) -> Row {
     Row { name, value: format!("printed {} {}", bytes(input), bytes(text.as_bytes())) }
 }
 
-/// The graph that binding calls build: its nodes by their numbers, how many edges it has, and each of them.
+/// The graph that binding calls build: its nodes by their numbers, how many edges it has, each of them, and finds in it.
 pub fn graph_row(name: String, calls: &[Call], graph: &Graph) -> Row {
     let (nodes, edges) = (graph.nodes(), graph.edges());
     let (calls, nodes, count) = (list(calls, call), list(&nodes, |n| node(n)), edges.len());
     let edges = list(&edges, |(from, ev, to)| format!("led {from} {} (some {to})", event(*ev)));
-    Row { name, value: format!("built {calls}\n    {nodes}\n    {count} {edges}") }
+    let finds = list(&finds::chances(graph), |&(mode, action)| shown(graph, mode, action));
+    Row { name, value: format!("built {calls}\n    {nodes}\n    {count} {edges}\n    {finds}") }
+}
+
+fn shown(graph: &Graph, mode: u16, action: u16) -> String {
+    let found = match finds::find(graph, mode, action) {
+        Err(n) => format!("(refuse {n})"),
+        Ok(Some(node)) => format!("(accept (some {node}))"),
+        Ok(None) => "(accept none)".into(),
+    };
+    format!("shown {mode} {action} {found}")
 }
 
 /// The map file after binding calls, as C gets it in a lent output.
@@ -162,7 +173,7 @@ use mathlib.Core.Path.{_≡_, refl}
 use mathlib.Core.Bool.{Bool, true, false}
 use mathlib.Core.Option.{Option, none, some}
 use mathlib.Core.List.{List, [], _∷_}
-use Rattle.rules.specs.Basics.{open-Basics}
+use Rattle.rules.specs.Basics.{accept, refuse, open-Basics}
 use Rattle.rules.specs.Values.{Key, Class, Any, Fallthrough, Once, Min, Max, pair, open-Values}
 use Rattle.rules.specs.Tables.{open-Tables}
 use Rattle.rules.specs.Graph.{Empty, Root, Holds, open-Graph}
@@ -175,7 +186,7 @@ use Rattle.rules.specs.MapFile.{open-MapFile}
 use Rattle.rules.specs.Run.{open-Run}
 use Rattle.rules.specs.Writing.{open-Writing}
 use Rattle.CRATE.proofs.Words.{Tried, _⇒_, seen, part, doing, class, mode, rule, tables, context, key, look, tryAll, outcome}
-use Rattle.CRATE.proofs.Words.{Ran, ran, runOutcome, Printed, printed, playOutcome, Built, built, node, led, buildOutcome}
+use Rattle.CRATE.proofs.Words.{Ran, ran, runOutcome, Printed, printed, playOutcome, Built, built, node, led, shown, buildOutcome}
 use Rattle.CRATE.proofs.Words.{Filed, filed, fileOutcome}
 
 ";

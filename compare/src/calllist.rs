@@ -1,9 +1,10 @@
 //! The input of the program `callplay` and what it must print. An input is numbers as in a map file: the three tables, then
-//! calls to the end. The answers are those of model and original; find and hint, which document 01 leaves free, are held to
-//! the model's nodes, and a written map file is the model's. The same lines hold for the calls of C on one machine.
+//! calls to the end. The answers are those of model and original. Find's and a written map file are the model's; the hint, which
+//! document 01 leaves free, is held to its nodes. The same lines hold for the calls of C on one machine.
 
 use crate::calls::{Answer, Call, Tables};
-use crate::graph::{limits, NodeAction};
+use crate::finds;
+use crate::graph::limits;
 use crate::mapfile::bindings_of;
 use crate::met::{expect_named, met_named};
 use crate::play::{Both, Seen};
@@ -53,8 +54,6 @@ const MOST_ROOM: usize = 65_535;
 #[derive(Clone, Debug, PartialEq)]
 pub enum Line {
     Text(String),
-    /// A node out of these, or `none` where there is none; then the mode.
-    Found(Vec<usize>, u16),
     /// At most the nodes left, and 0 only if none is left; then the mode.
     Free(usize, u16),
 }
@@ -63,8 +62,6 @@ impl Line {
     pub fn fits(&self, line: &str) -> bool {
         match self {
             Line::Text(text) => text == line,
-            Line::Found(nodes, mode) if nodes.is_empty() => line == format!("none mode {mode}"),
-            Line::Found(nodes, mode) => nodes.iter().any(|n| line == format!("node {n} mode {mode}")),
             Line::Free(left, mode) => {
                 let number = line.strip_prefix("free ").and_then(|l| l.strip_suffix(&format!(" mode {mode}")));
                 let free = number.and_then(|n| n.parse::<usize>().ok().filter(|k| k.to_string() == n));
@@ -85,9 +82,7 @@ impl Line {
     pub fn only(&self) -> Option<String> {
         match self {
             Line::Text(text) => Some(text.clone()),
-            Line::Found(nodes, mode) if nodes.is_empty() => Some(format!("none mode {mode}")),
-            Line::Found(nodes, mode) if nodes.len() == 1 => Some(format!("node {} mode {mode}", nodes[0])),
-            _ => None,
+            Line::Free(..) => None,
         }
     }
 }
@@ -167,16 +162,7 @@ fn settled(seen: &Seen) -> Line {
 }
 
 fn find(both: &Both, mode: u16, action: u16) -> Line {
-    let entered = both.model.mode();
-    if mode > 15 {
-        met_named("find: refused 1".into());
-        return Line::Text(format!("refused 1 mode {entered}"));
-    }
-    let has = |a: &NodeAction| matches!(a, NodeAction::Step(s) if s.actions.contains(&action));
-    let nodes = both.model.graph().nodes();
-    let found: Vec<usize> = (0..nodes.len()).filter(|&n| nodes[n].mode == mode && has(&nodes[n].action)).collect();
-    met_named(format!("find: {}", if found.is_empty() { "none" } else { "a node" }));
-    Line::Found(found, entered)
+    Line::Text(format!("{} mode {}", finds::answer(both.model.graph(), mode, action), both.model.mode()))
 }
 
 fn hint(both: &Both) -> Line {

@@ -7,6 +7,7 @@ use std::time::{Duration, Instant};
 
 use crate::calllist::{self, plays, Line, List, Play};
 use crate::cases::{any_case_of, input_of_case, Case};
+use crate::finds;
 use crate::lent;
 use crate::mapfile;
 use crate::met;
@@ -175,6 +176,7 @@ fn guarded<T>(work: impl FnOnce() -> Result<T, String>) -> Result<T, String> {
 pub fn expect_met() {
     expect_answers();
     calllist::expect_writes();
+    finds::expect();
     met::expect_named("run: accepted".into());
     (1..=11).for_each(|n| met::expect_named(format!("run: refused {n:2}")));
     met::expect_named("run: the output is full to its last byte".into());

@@ -11,6 +11,7 @@ mod cases;
 mod contest;
 mod differences;
 mod edges;
+mod finds;
 mod gen;
 mod graph;
 mod lent;

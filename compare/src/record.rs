@@ -75,7 +75,7 @@ fn record(count: usize, samples: fn(u64) -> Result<Vec<Sample>, String>) -> Resu
     unreachable!("the seeds do not end")
 }
 
-/// Lists of calls, without hints. One whose find has several right answers is left out.
+/// Lists of calls, without hints, which may have several right answers.
 pub fn lists(count: usize) -> Result<Recorded, String> {
     record(count, |seed| {
         let list: List = list_of(seed).into_iter().filter(|item| *item != Item::Hint).collect();

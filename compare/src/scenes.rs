@@ -10,7 +10,7 @@ use crate::writing::file_of;
 
 type Scene = fn(&mut Gen) -> Vec<Call>;
 
-const SCENES: [Scene; 15] = [
+const SCENES: [Scene; 16] = [
     overrides,
     half_typed,
     flagged,
@@ -26,6 +26,7 @@ const SCENES: [Scene; 15] = [
     full_nodes,
     full_edges,
     numbers_at_edges,
+    few_actions,
 ];
 
 /// These have hundreds of calls or more, so they come seldom.
@@ -48,12 +49,14 @@ pub fn calls_of(seed: u64) -> Vec<Call> {
     }
 }
 
-/// The list of a seed for `callplay`: its calls, now and then with find, hint, write, odd kinds and what is no call.
+/// The list of a seed for `callplay`: its calls, now and then with find, hint, write, odd kinds and what is no call, and at its
+/// end finds and writes.
 pub fn list_of(seed: u64) -> List {
     let mut g = Gen::new(seed, Kind::Plain);
     let calls = calls_of(seed);
     let is_long = calls.len() > 200;
     let often = if is_long { g.random.pick(&[0, 0, 1]) } else { g.random.pick(&[0, 3, 10]) };
+    let finds = if g.random.chance(40) { finds(&mut g, &calls) } else { vec![] };
     let mut list = vec![];
     for call in calls {
         if g.random.chance(often) {
@@ -61,6 +64,7 @@ pub fn list_of(seed: u64) -> List {
         }
         list.push(Item::Call(writable(call)));
     }
+    list.extend(finds);
     if is_long {
         list.extend([Room::Short, Room::Exact].map(Item::Write));
     }
@@ -80,6 +84,32 @@ fn beside(g: &mut Gen) -> Item {
         4..=5 => Item::Hint,
         6..=7 => Item::Write(room(g)),
         _ => Item::Unknown(unknown(g)),
+    }
+}
+
+/// Finds of actions that bindings of the list have, most of them in their modes; and of action 0.
+fn finds(g: &mut Gen, calls: &[Call]) -> List {
+    let bound: Vec<(u16, u16)> = calls.iter().flat_map(bound_actions).collect();
+    let Some(&last) = bound.last() else { return vec![Item::Find(0, 0)] };
+    let some = |g: &mut Gen| {
+        let (mode, action) = g.random.pick(&bound);
+        match g.random.below(10) {
+            0..=5 => Item::Find(mode, action),
+            6 => Item::Find(g.random.small(18), action),
+            7 => Item::Find(mode, 0),
+            _ => Item::Find(last.0, last.1),
+        }
+    };
+    (0..1 + g.random.below(8)).map(|_| some(g)).collect()
+}
+
+/// The actions of a binding's step, with its mode.
+fn bound_actions(call: &Call) -> Vec<(u16, u16)> {
+    match call {
+        Call::Map(mode, _, step) | Call::Prefix(mode, _, Some(step)) => {
+            step.actions.iter().map(|&a| (*mode, a)).collect()
+        },
+        _ => vec![],
     }
 }
 
@@ -461,6 +491,29 @@ fn full_tables(g: &mut Gen) -> Vec<Call> {
     calls
 }
 
+/// Few actions on many nodes: a path bound again, a prefix over a mapping, a mapping over a prefix, which goes to the root; some
+/// steps flagged, some without an action.
+fn few_actions(g: &mut Gen) -> Vec<Call> {
+    let modes = [g.random.small(16), 15];
+    let step = |g: &mut Gen| Step {
+        flag: g.random.chance(30),
+        actions: (0..g.random.below(4)).map(|_| g.random.small(5)).collect(),
+        next: g.random.chance(30).then(|| g.random.small(16)),
+        ..Step::default()
+    };
+    let mut calls = vec![];
+    for _ in 0..4 + g.random.below(12) {
+        let (mode, way) = (g.random.pick(&modes), path(&[g.random.small(6)]));
+        calls.push(match g.random.below(6) {
+            0 => Call::Prefix(mode, way, None),
+            1 => Call::Prefix(mode, way, Some(step(g))),
+            _ => Call::Map(mode, way, step(g)),
+        });
+    }
+    calls.extend(presses(&some_keys(g, 4)));
+    calls
+}
+
 // ---- full graphs
 
 /// Bindings over keys of their own that leave so many nodes and edges unused, as near as can be.
@@ -518,10 +571,12 @@ fn small_bindings(g: &mut Gen, fill: &mut Fill) -> Vec<Call> {
     for _ in 0..4 + g.random.below(5) {
         let event = fill.fresh_key();
         let way = vec![Part { repeat: edge_repeat(g, &[0, 1, 2]), event }];
-        calls.push(match g.random.below(4) {
+        calls.push(match g.random.below(5) {
             0 => Call::Map(g.mode(), way, g.step()),
             1 => Call::Prefix(g.mode(), way, Some(g.step())),
             2 => Call::Map(g.mode(), vec![once(event)], g.step()),
+            // an action that no other step has
+            3 => Call::Map(g.mode(), vec![once(event)], does(fill.next_key)),
             _ => g.binding(),
         });
     }

@@ -15,7 +15,7 @@ use Rattle.rules.specs.Graph.{Graph, Node, Cursor, cursor, NodeAction, Empty, a
 use Rattle.keygraph.specs.Making.{Leads, Makes, cameTo, cursorIn, edgesIn, settledAt, upsertedAt, upserted, paid, addTimes, addParts, minTo, minOn}
 use Rattle.keygraph.specs.declared.cursor.Cursor as C
 use Rattle.keyvalues.specs.View.{eventAt, graphBy, nodesOf, outcome}
-use Rattle.keyparts.specs.View.{edgesOf, edgeWords, headWords, actWords, graphIn, find, keyIs, reached, linkedPlace, linkedEnd, Indexed}
+use Rattle.keyparts.specs.View.{edgesOf, edgeWords, headWords, actWords, graphIn, firstPlace, keyIs, reached, linkedPlace, linkedEnd, Indexed}
 use Rattle.keyparts.specs.declared.graph.Counts.{Counts}
 use Rattle.keyvalues.proofs.Words.{event-fall, take-min}
 use Rattle.keyparts.proofs.Places.{edges-length}
@@ -317,7 +317,7 @@ module _ (ws : List ℕ) (hl : length ws ≡ 4128) (s : C.Cursor) (ls : List ℕ
   few : length (edgeWords ws) ≤ 2048
   few = omega (arith, edges-length ws hl)
 
-  pub place-in : (key : ℕ) → linkedPlace (reached (edgeWords ws) (s .counts .edges)) ls key ≡ find (keyIs key) (edgesIn ws s)
+  pub place-in : (key : ℕ) → linkedPlace (reached (edgeWords ws) (s .counts .edges)) ls key ≡ firstPlace (keyIs key) (edgesIn ws s)
   place-in key = reached-place (edgeWords ws) (s .counts .edges) ls few x key
 
   pub end-in : (n : ℕ) (ev : Event) (ns : List Node) → linkedEnd (reached (edgeWords ws) (s .counts .edges)) ls n ev ≡ getEdge (graphBy ns (edgesOf (edgeWords ws) (s .counts .edges))) n ev

@@ -17,7 +17,7 @@ ghost use lib.ListN.{length};
 ghost use Rattle.rules.specs.Basics as b;
 ghost use Rattle.rules.specs.Graph as g;
 ghost use Rattle.keyvalues.specs.View.{eventAt, nodeIn, maybeOf, resultBy};
-ghost use Rattle.keyparts.specs.View.{find, keyIs, Indexed, linkMore, graphIn};
+ghost use Rattle.keyparts.specs.View.{firstPlace, keyIs, Indexed, linkMore, graphIn};
 ghost use Rattle.keygraph.specs.Making.{Leads, Makes, cameTo, edgesIn, settledAt, upsertedAt, upserted, paid};
 
 // `prev` is the node come to, `owed` whether a Fallthrough edge is owed from there, and `refusal` the number of the
@@ -149,7 +149,7 @@ impl Cursor {
         code: u32,
     ) -> Cursor
         requires { ⌜ length (now words) ≡ 4128 ⌝ }
-        requires { ⌜ (self .refusal ≡ 0) × (i ≡ find (keyIs (from + code * 65536)) (edgesIn (now words) self)) ⌝ }
+        requires { ⌜ (self .refusal ≡ 0) × (i ≡ firstPlace (keyIs (from + code * 65536)) (edgesIn (now words) self)) ⌝ }
         ensures { λ r. ⌜ length (now (words .exit)) ≡ 4128 ⌝ }
         ensures { λ r. ⌜ Leads (cameTo (now (words .entry)) self) (g.edgeBetween from to (eventAt code)) (cameTo (now (words .exit)) r) ⌝ }
         ensures { λ r. ⌜ ((ls : List ℕ) → Indexed (edgesIn (now (words .entry)) self) ls → Indexed (edgesIn (now (words .exit)) r) (linkMore ls (self .counts .edges) i (from + code * 65536))) ⌝ }

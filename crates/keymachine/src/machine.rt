@@ -15,7 +15,7 @@ ghost use mathlib.Core.Path.{_≡_};
 ghost use mathlib.Core.List.{List};
 ghost use Prim.Native.Nat.{ℕ};
 ghost use Rattle.rules.specs.Tables.{noTables};
-ghost use Rattle.rules.specs.Calls.{graphKind, call, fresh, mode-call, Open, Press, Pop, Repeats, Reset, FindFits, HintFits};
+ghost use Rattle.rules.specs.Calls.{graphKind, call, fresh, mode-call, Open, Press, Pop, Repeats, Reset, HintFits, find};
 ghost use Rattle.keyvalues.specs.View.{answerOf};
 ghost use Rattle.keyparts.specs.View.{foundOf, graphOf};
 ghost use Rattle.keytables.specs.View.{wholeTables, tablesIn};
@@ -174,9 +174,9 @@ impl ModalMachine {
         live.mode()
     }
 
-    // Some node of the mode whose step has the action.
+    // The lowest-numbered node of the mode whose step has the action.
     pub fn find(self, mode: u16, action: u16) -> Found
-        ensures { λ r. ⌜ FindFits (graphOf (self .map .graph)) mode action (foundOf r) ⌝ }
+        ensures { λ r. ⌜ foundOf r ≡ find (graphOf (self .map .graph)) mode action ⌝ }
     {
         let g = self.map.graph;
         g.find(mode, action)

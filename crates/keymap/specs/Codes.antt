@@ -7,7 +7,7 @@ use lib.Dec.{leb}
 use Rattle.rules.specs.Basics.{Result, accept, refuse, _>>=_, unless}
 use Rattle.rules.specs.Values.{largest}
 use Rattle.rules.specs.Graph.{Graph}
-use Rattle.rules.specs.Calls.{Machine, graphKind, bind, settled, repeat-call, Answer, Accepted, Refused, Popped, Nothing, Pressed, PressRefused, FindFits, HintFits}
+use Rattle.rules.specs.Calls.{Machine, graphKind, bind, settled, repeat-call, Answer, Accepted, Refused, Popped, Nothing, Pressed, PressRefused, HintFits}
 use Rattle.rules.specs.MapFile.{readBinding, atEnd, readMap}
 
 -- ---- answers
@@ -31,12 +31,6 @@ abbrev pub findCode : Result (Option ℕ) → ℕ
 findCode (refuse n) = n
 findCode (accept none) = 0
 findCode (accept (some node)) = (node + 1) * 32
-
--- the number is that of an answer of find that fits
-pub record Finds (g : Graph) (mode action number : ℕ) : Type 0 where
-  pub found : Result (Option ℕ)
-  pub fits : FindFits g mode action found
-  pub told : number ≡ findCode found
 
 -- the number is 32 times a node hint that fits
 pub record Hints (g : Graph) (number : ℕ) : Type 0 where

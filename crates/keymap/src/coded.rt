@@ -7,6 +7,7 @@ use keybind::map::Map;
 use keygraph::answer::Answer;
 use keygraph::graph::Counts;
 use keygraph::graph::Graph;
+use keygraph::layout;
 use keygraph::tables::TableWords;
 use keymachine::context::Context;
 use keymachine::context::Override;
@@ -25,12 +26,12 @@ ghost use Rattle.rules.specs.Values.{Binding};
 ghost use Rattle.rules.specs.Tables.{Tables};
 ghost use Rattle.rules.specs.Graph.{Graph as Bindings};
 ghost use Rattle.rules.specs.KeyLoop.{State};
-ghost use Rattle.rules.specs.Calls.{graphKind, call, mode-call, Press, Pop, Repeats, Reset};
+ghost use Rattle.rules.specs.Calls.{graphKind, call, mode-call, Press, Pop, Repeats, Reset, find};
 ghost use Rattle.keyparts.specs.View.{graphIn, graphOf};
 ghost use Rattle.keytables.specs.View.{tablesIn};
 ghost use Rattle.keymachine.specs.View.{machineBy, machineOf};
 ghost use Rattle.keybind.specs.View.{mapWith};
-ghost use Rattle.keymap.specs.Codes.{coded, openMap, bindMap, repeatOver, Finds, Hints};
+ghost use Rattle.keymap.specs.Codes.{coded, openMap, bindMap, repeatOver, findCode, Hints};
 
 // The machine after a call, and its answer's number.
 pub struct CodedResult {
@@ -187,10 +188,11 @@ pub fn mode(live: Live) -> u64
     live.mode() as u64
 }
 
-pub fn find(graph: Graph, mode: u16, action: u16) -> u64
-    ensures { λ r. ⌜ Finds (graphOf graph) mode action r ⌝ }
+pub fn find(words: &[u64; Graph::WORDS], counts: Counts, mode: u16, action: u16) -> u64
+    requires { ⌜ length (now words) ≡ 4128 ⌝ }
+    ensures { λ r. ⌜ r ≡ findCode (find (graphIn (now (words .entry)) counts) mode action) ⌝ }
 {
-    codes::found_code(graph.find(mode, action))
+    codes::found_code(layout::find_node(words, counts, mode, action))
 }
 
 pub fn free_nodes(graph: Graph) -> u64

@@ -7,11 +7,11 @@ use mapwrite::map;
 ghost use mathlib.Core.Path.{_≡_};
 ghost use mathlib.Core.Option.{none};
 ghost use lib.ListN.{length};
-ghost use Rattle.rules.specs.Calls.{graphKind, call, mode-call, Press, Pop, Repeats, Reset};
+ghost use Rattle.rules.specs.Calls.{graphKind, call, mode-call, Press, Pop, Repeats, Reset, find};
 ghost use Rattle.rules.specs.Run.{pairBytes, run, answered};
 ghost use Rattle.rules.specs.Writing.{write-call};
 ghost use Rattle.keymachine.specs.View.{scannerOf};
-ghost use Rattle.keymap.specs.Codes.{coded, openMap, bindMap, repeatOver, Finds, Hints, scannerBytes};
+ghost use Rattle.keymap.specs.Codes.{coded, openMap, bindMap, repeatOver, findCode, Hints, scannerBytes};
 
 // The bytes that C lends for a scanner.
 #[no_mangle]
@@ -103,9 +103,14 @@ pub extern "C" fn keymap_mode(m: &Scanner) -> u64
 
 #[no_mangle]
 pub extern "C" fn keymap_find(m: &Scanner, mode: u16, action: u16) -> u64
-    ensures { λ r. ⌜ Finds (scannerOf (now (m .entry)) .bindings) mode action r ⌝ }
+    ensures { λ r. ⌜ r ≡ findCode (find (scannerOf (now (m .entry)) .bindings) mode action) ⌝ }
 {
-    coded::find((*m).machine.map.graph, mode, action)
+    coded::find(
+        &(*m).machine.map.graph.words,
+        (*m).machine.map.graph.counts,
+        mode,
+        action,
+    )
 }
 
 #[no_mangle]

@@ -3,6 +3,7 @@
 use keybind::map;
 use keygraph::answer::Answer;
 use keygraph::find::Found;
+use keygraph::layout;
 use keygraph::path::EdgePath;
 use keygraph::step::Step;
 use keymachine::context::Override;
@@ -12,7 +13,7 @@ use keymachine::live::Waiting;
 use keymachine::scanner::Scanner;
 use keymachine::tables::Tables;
 ghost use mathlib.Core.Path.{_≡_};
-ghost use Rattle.rules.specs.Calls.{graphKind, call, mode-call, Open, Map, Prefix, Press, Pop, Repeats, Reset, FindFits, HintFits};
+ghost use Rattle.rules.specs.Calls.{graphKind, call, mode-call, Open, Map, Prefix, Press, Pop, Repeats, Reset, HintFits, find};
 ghost use Rattle.keyvalues.specs.View.{wholePath, wholeStep, chosenOf, answerOf};
 ghost use Rattle.keyparts.specs.View.{foundOf};
 ghost use Rattle.keytables.specs.View.{wholeTables};
@@ -91,9 +92,14 @@ pub fn mode(m: &Scanner) -> u16
 }
 
 pub fn find(m: &Scanner, mode: u16, action: u16) -> Found
-    ensures { λ r. ⌜ FindFits (scannerOf (now (m .entry)) .bindings) mode action (foundOf r) ⌝ }
+    ensures { λ r. ⌜ foundOf r ≡ find (scannerOf (now (m .entry)) .bindings) mode action ⌝ }
 {
-    (*m).machine.map.graph.find(mode, action)
+    layout::find_node(
+        &(*m).machine.map.graph.words,
+        (*m).machine.map.graph.counts,
+        mode,
+        action,
+    )
 }
 
 pub fn free_nodes(m: &Scanner) -> u16

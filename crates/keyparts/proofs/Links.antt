@@ -17,7 +17,7 @@ use Rattle.rules.specs.Values.{Event}
 use Rattle.rules.specs.Tables.{ClassEntry}
 use Rattle.rules.specs.Graph.{isEdge, endIn, getEdge, followFirst, followEdge, eventsOf, orElseBy, lastly, Node}
 use Rattle.keyvalues.specs.View.{eventAt, eventCode, graphBy}
-use Rattle.keyparts.specs.View.{edgeOf, find, keyIs, reached, chainOf, placeOn, linkedPlace, endAt, linkedEnd, linkAt, followLinks, Indexed}
+use Rattle.keyparts.specs.View.{edgeOf, firstPlace, keyIs, reached, chainOf, placeOn, linkedPlace, endAt, linkedEnd, linkAt, followLinks, Indexed}
 use Rattle.rules.proofs.Tests.{and-l, and-r, by-cases, event-is}
 use Rattle.keyvalues.proofs.Words.{code-event}
 use Rattle.keyparts.proofs.Edges.{edge-key}
@@ -151,11 +151,11 @@ place-out ws ls key (suc k) i h = rw (le-ltb i (length ws) h)
 
 -- ---- an index of all words is made from the last to the first
 
-find-from : (ws : List ℕ) (i : ℕ) → i < length ws → (key : ℕ) (b : Bool) → keyIs key (getD ws i 0) ≡ b
-    → (if b then i else suc i + find (keyIs key) (drop (suc i) ws)) ≡ i + find (keyIs key) (drop i ws)
-unfolding find
-find-from ws i l key true e = rw (drop-cons ws i 0 l, e) (omega arith)
-find-from ws i l key false e = rw (drop-cons ws i 0 l, e) (omega arith)
+first-from : (ws : List ℕ) (i : ℕ) → i < length ws → (key : ℕ) (b : Bool) → keyIs key (getD ws i 0) ≡ b
+    → (if b then i else suc i + firstPlace (keyIs key) (drop (suc i) ws)) ≡ i + firstPlace (keyIs key) (drop i ws)
+unfolding firstPlace
+first-from ws i l key true e = rw (drop-cons ws i 0 l, e) (omega arith)
+first-from ws i l key false e = rw (drop-cons ws i 0 l, e) (omega arith)
 
 module _ (ws : List ℕ) (short : length ws ≤ 2048) where
   -- the links lead to the words from place i on
@@ -163,11 +163,11 @@ module _ (ws : List ℕ) (short : length ws ≤ 2048) where
     pub long : length ls ≡ 2304
     pub behind : (p : ℕ) → p < 2304 → i ≤ getD ls p 0
     pub inside : (p : ℕ) → p < 2304 → getD ls p 0 < 2048 → getD ls p 0 < length ws
-    pub finds : (key k : ℕ) → length ws ≤ i + k → placeOn k ws ls key (getD ls (chainOf key) 0) ≡ i + find (keyIs key) (drop i ws)
+    pub finds : (key k : ℕ) → length ws ≤ i + k → placeOn k ws ls key (getD ls (chainOf key) 0) ≡ i + firstPlace (keyIs key) (drop i ws)
 
   -- no word is linked yet
   pub linked-none : Linked (replicate 2304 2048) (length ws)
-  unfolding find
+  unfolding firstPlace
   linked-none = record {
     long = length-replicate {A = ℕ} 2304 2048;
     behind = λ p l. rw (getD-replicate {A = ℕ} 2304 p 2048 0 l) short;
@@ -185,8 +185,8 @@ module _ (ws : List ℕ) (short : length ws ≤ 2048) where
     behind = every-link ls i (getD ws i 0 / 65536) (h .long) low (λ p. i ≤ p) (omega arith) (λ p u. let b = h .behind p u in omega arith);
     inside = every-link ls i (getD ws i 0 / 65536) (h .long) low (λ p. p < 2048 → p < length ws) (λ _. l) (h .inside);
     finds = λ key k m.
-        placed ws short ls (h .long) i (getD ws i 0) l refl away key (length ws - suc i) (suc i + find (keyIs key) (drop (suc i) ws)) (λ j u. h .finds key j (omega arith)) k (omega arith)
-        ∙ find-from ws i l key (keyIs key (getD ws i 0)) refl;
+        placed ws short ls (h .long) i (getD ws i 0) l refl away key (length ws - suc i) (suc i + firstPlace (keyIs key) (drop (suc i) ws)) (λ j u. h .finds key j (omega arith)) k (omega arith)
+        ∙ first-from ws i l key (keyIs key (getD ws i 0)) refl;
   }
     where
       low : i < 2048
@@ -212,32 +212,32 @@ module _ (ws : List ℕ) (i w : ℕ) (l : i < length ws) (same : w / 65536 ≡ g
   place-kept ls key zero p = length-set ws i w
   place-kept ls key (suc k) p = rw (length-set ws i w, key-kept key p, place-kept ls key k (getD ls p 0))
 
-find-kept : (key : ℕ) (ws : List ℕ) (i w : ℕ) → w / 65536 ≡ getD ws i 0 / 65536 → find (keyIs key) (set ws i w) ≡ find (keyIs key) ws
-unfolding find keyIs
-find-kept key [] i w e = refl
-find-kept key (x ∷ ws) zero w e = rw e
-find-kept key (x ∷ ws) (suc i) w e = rw (find-kept key ws i w e)
+first-kept : (key : ℕ) (ws : List ℕ) (i w : ℕ) → w / 65536 ≡ getD ws i 0 / 65536 → firstPlace (keyIs key) (set ws i w) ≡ firstPlace (keyIs key) ws
+unfolding firstPlace keyIs
+first-kept key [] i w e = refl
+first-kept key (x ∷ ws) zero w e = rw e
+first-kept key (x ∷ ws) (suc i) w e = rw (first-kept key ws i w e)
 
 pub indexed-put : (ws : List ℕ) (i w : ℕ) (ls : List ℕ) → i < length ws → w / 65536 ≡ getD ws i 0 / 65536 → Indexed ws ls → Indexed (set ws i w) ls
 indexed-put ws i w ls l same h = record {
   long = h .long;
   inside = λ p u v. rw (length-set ws i w) (h .inside p u v);
-  finds = λ key k m. let e = length-set ws i w in place-kept ws i w l same ls key k (getD ls (chainOf key) 0) ∙ h .finds key k (omega arith) ∙ sym (find-kept key ws i w same);
+  finds = λ key k m. let e = length-set ws i w in place-kept ws i w l same ls key k (getD ls (chainOf key) 0) ∙ h .finds key k (omega arith) ∙ sym (first-kept key ws i w same);
 }
 
 -- ---- a word goes behind the last
-find-more : (p : ℕ → Bool) (ws : List ℕ) (w : ℕ) → find p (ws ++ (w ∷ [])) ≡ (if ltb (find p ws) (length ws) then find p ws else (if p w then length ws else suc (length ws)))
-unfolding find
-find-more p [] w = refl
-find-more p (x ∷ ws) w = go (p x) (find-more p ws w)
+first-more : (p : ℕ → Bool) (ws : List ℕ) (w : ℕ) → firstPlace p (ws ++ (w ∷ [])) ≡ (if ltb (firstPlace p ws) (length ws) then firstPlace p ws else (if p w then length ws else suc (length ws)))
+unfolding firstPlace
+first-more p [] w = refl
+first-more p (x ∷ ws) w = go (p x) (first-more p ws w)
   where
-    go : (b : Bool) → find p (ws ++ (w ∷ [])) ≡ (if ltb (find p ws) (length ws) then find p ws else (if p w then length ws else suc (length ws)))
-        → (if b then 0 else suc (find p (ws ++ (w ∷ []))))
-        ≡ (if ltb (if b then 0 else suc (find p ws)) (suc (length ws)) then (if b then 0 else suc (find p ws)) else (if p w then suc (length ws) else suc (suc (length ws))))
+    go : (b : Bool) → firstPlace p (ws ++ (w ∷ [])) ≡ (if ltb (firstPlace p ws) (length ws) then firstPlace p ws else (if p w then length ws else suc (length ws)))
+        → (if b then 0 else suc (firstPlace p (ws ++ (w ∷ []))))
+        ≡ (if ltb (if b then 0 else suc (firstPlace p ws)) (suc (length ws)) then (if b then 0 else suc (firstPlace p ws)) else (if p w then suc (length ws) else suc (suc (length ws))))
     go true ih = rw (ltb-zero (length ws))
-    go false ih = rw (ltb-suc (find p ws) (length ws)) (ap suc ih ∙ inner (ltb (find p ws) (length ws)) (p w))
+    go false ih = rw (ltb-suc (firstPlace p ws) (length ws)) (ap suc ih ∙ inner (ltb (firstPlace p ws) (length ws)) (p w))
       where
-        inner : (c d : Bool) → suc (if c then find p ws else (if d then length ws else suc (length ws))) ≡ (if c then suc (find p ws) else (if d then suc (length ws) else suc (suc (length ws))))
+        inner : (c d : Bool) → suc (if c then firstPlace p ws else (if d then length ws else suc (length ws))) ≡ (if c then suc (firstPlace p ws) else (if d then suc (length ws) else suc (suc (length ws))))
         inner true d = refl
         inner false true = refl
         inner false false = refl
@@ -277,14 +277,14 @@ module _ (ws : List ℕ) (w : ℕ) (ls : List ℕ) (room : length ws < 2048) (h 
           let l : length (ws ++ (w ∷ [])) ≤ p = omega (arith, length-more) in
           rw (le-ltb p (length (ws ++ (w ∷ []))) l) (length-more ∙ raised-all)
 
-  module _ (fresh : find (keyIs (w / 65536)) ws ≡ length ws) where
-    found : (key : ℕ) (b : Bool) → keyIs key w ≡ b → (if b then length ws else raised (find (keyIs key) ws)) ≡ find (keyIs key) (ws ++ (w ∷ []))
+  module _ (fresh : firstPlace (keyIs (w / 65536)) ws ≡ length ws) where
+    found : (key : ℕ) (b : Bool) → keyIs key w ≡ b → (if b then length ws else raised (firstPlace (keyIs key) ws)) ≡ firstPlace (keyIs key) (ws ++ (w ∷ []))
     unfolding keyIs
     found key true e =
         let q = eqb-true (w / 65536) key e in
         let a : length ws ≤ length ws = omega arith in
-        sym (find-more (keyIs key) ws w ∙ rw (← q, fresh, le-ltb (length ws) (length ws) a, eq-eqb (w / 65536) (w / 65536) refl))
-    found key false e = sym (find-more (keyIs key) ws w ∙ rw e)
+        sym (first-more (keyIs key) ws w ∙ rw (← q, fresh, le-ltb (length ws) (length ws) a, eq-eqb (w / 65536) (w / 65536) refl))
+    found key false e = sym (first-more (keyIs key) ws w ∙ rw e)
 
     pub indexed-more : Indexed (ws ++ (w ∷ [])) (linkAt ls (length ws) (w / 65536))
     indexed-more =
@@ -295,7 +295,7 @@ module _ (ws : List ℕ) (w : ℕ) (ls : List ℕ) (room : length ws < 2048) (h 
           long = link-long ls (length ws) (w / 65536) (h .long) room;
           inside = every-link ls (length ws) (w / 65536) (h .long) room (λ p. p < 2048 → p < length (ws ++ (w ∷ []))) (λ _. last) (λ p u v. let b = h .inside p u v in omega arith);
           finds = λ key k u.
-              placed (ws ++ (w ∷ [])) short ls (h .long) (length ws) w last (getD-append-seam ws w [] 0) away key (length ws) (raised (find (keyIs key) ws))
+              placed (ws ++ (w ∷ [])) short ls (h .long) (length ws) w last (getD-append-seam ws w [] 0) away key (length ws) (raised (firstPlace (keyIs key) ws))
               (λ j v. grown key j (getD ls (chainOf key) 0) (h .inside (chainOf key) (chain-below key)) ∙ ap raised (h .finds key j v)) k (omega arith)
               ∙ found key (keyIs key w) refl;
         }
@@ -326,8 +326,8 @@ end-never n ev [] h = refl
 end-never n ev (w ∷ ws) h = rw (h w) (end-never n ev ws h)
 
 -- at the first word with the event's key stands the first edge for the event
-end-first : (n : ℕ) (ev : Event) (ws : List ℕ) → endAt ws n ev (find (keyIs (n + eventCode ev * 65536)) ws) ≡ endIn (map edgeOf ws) n ev
-unfolding endAt endIn find keyIs
+end-first : (n : ℕ) (ev : Event) (ws : List ℕ) → endAt ws n ev (firstPlace (keyIs (n + eventCode ev * 65536)) ws) ≡ endIn (map edgeOf ws) n ev
+unfolding endAt endIn firstPlace keyIs
 end-first n ev [] = refl
 end-first n ev (x ∷ ws) =
     by-cases (eqb (x / 65536) (n + eventCode ev * 65536))
@@ -342,13 +342,13 @@ end-first n ev (x ∷ ws) =
         (λ t. sym (same-edge n ev x w (q ∙ edge-has n ev w t)) ∙ f)
         (λ t. t)))
 
-    later : (b : Bool) → isEdge n ev (edgeOf x) ≡ b → (x / 65536 ≡ n + eventCode ev * 65536 → ⊥) → endAt ws n ev (find (keyIs (n + eventCode ev * 65536)) ws) ≡ endIn (map edgeOf ws) n ev
-        → endAt (x ∷ ws) n ev (suc (find (keyIs (n + eventCode ev * 65536)) ws)) ≡ (if b then some (edgeOf x .to) else endIn (map edgeOf ws) n ev)
+    later : (b : Bool) → isEdge n ev (edgeOf x) ≡ b → (x / 65536 ≡ n + eventCode ev * 65536 → ⊥) → endAt ws n ev (firstPlace (keyIs (n + eventCode ev * 65536)) ws) ≡ endIn (map edgeOf ws) n ev
+        → endAt (x ∷ ws) n ev (suc (firstPlace (keyIs (n + eventCode ev * 65536)) ws)) ≡ (if b then some (edgeOf x .to) else endIn (map edgeOf ws) n ev)
     later true f d ih = absurd (d (sym (edge-has n ev x f)))
-    later false f d ih = rw (ltb-suc (find (keyIs (n + eventCode ev * 65536)) ws) (length ws)) ih
+    later false f d ih = rw (ltb-suc (firstPlace (keyIs (n + eventCode ev * 65536)) ws) (length ws)) ih
 
 module _ (ws ls : List ℕ) (short : length ws ≤ 2048) (h : Indexed ws ls) where
-  pub indexed-place : (key : ℕ) → linkedPlace ws ls key ≡ find (keyIs key) ws
+  pub indexed-place : (key : ℕ) → linkedPlace ws ls key ≡ firstPlace (keyIs key) ws
   unfolding linkedPlace
   indexed-place key = h .finds key 2048 short
 
@@ -370,7 +370,7 @@ module _ (ys : List ℕ) (m : ℕ) (ls : List ℕ) (low : length ys ≤ 2048) (h
   few : length (take m ys) ≤ 2048
   few = omega (arith, length-take m ys)
 
-  pub reached-place : (key : ℕ) → linkedPlace (reached ys m) ls key ≡ find (keyIs key) (take m ys)
+  pub reached-place : (key : ℕ) → linkedPlace (reached ys m) ls key ≡ firstPlace (keyIs key) (take m ys)
   reached-place key = rw (reached-all m ys low) (indexed-place (take m ys) ls few h key)
 
   pub reached-end : (n : ℕ) (ev : Event) → linkedEnd (reached ys m) ls n ev ≡ endIn (map edgeOf (take m ys)) n ev

@@ -15,9 +15,9 @@ use Rattle.rules.specs.Graph.{Graph, addEdge, addNode, settle}
 use Rattle.keyparts.specs.declared.graph.Counts.{Counts}
 use Rattle.keyvalues.specs.declared.node.NodeWords.{NodeWords}
 use Rattle.keyvalues.specs.View.{eventAt, nodeAt, nodesOf}
-use Rattle.keyparts.specs.View.{edgesOf, find, keyIs, edgeWords, headWords, actWords, graphFrom, graphIn, withEdge, withNode, linkAt, linkMore, Indexed}
+use Rattle.keyparts.specs.View.{edgesOf, firstPlace, keyIs, edgeWords, headWords, actWords, graphFrom, graphIn, withEdge, withNode, linkAt, linkMore, Indexed}
 use Rattle.keyparts.proofs.Links.{indexed-put, indexed-more}
-use Rattle.keyparts.proofs.Finds.{find-most, find-has, edge-replaced, edge-appended, edge-full}
+use Rattle.keyparts.proofs.Finds.{first-most, first-has, edge-replaced, edge-appended, edge-full}
 use Rattle.keyvalues.proofs.Nodes.{node-added, node-full, settle-set, settle-out, settle-other}
 
 module _ (ws : List ℕ) (hl : length ws ≡ 4128) where
@@ -101,14 +101,14 @@ node-edges ws i h w = act-edges (set ws (2048 + i) h) i w ∙ head-edges ws i h
 
 -- ---- an edge: n and i are what the code has for the total and the place
 module _ (ws : List ℕ) (k : Counts) (from code to n i w : ℕ) (hf : from < 65536) (ht : to < 65536) (hl : length ws ≡ 4128)
-    (hn : n ≡ min (k .edges) 2048) (hi : i ≡ find (keyIs (from + code * 65536)) (take (k .edges) (edgeWords ws))) (hw : w ≡ to + 65536 * (from + code * 65536)) where
+    (hn : n ≡ min (k .edges) 2048) (hi : i ≡ firstPlace (keyIs (from + code * 65536)) (take (k .edges) (edgeWords ws))) (hw : w ≡ to + 65536 * (from + code * 65536)) where
   pub edge-put : {x : Graph} → x ≡ withEdge ws i w k → i < n → accept x ≡ addEdge from to (eventAt code) (graphIn ws k)
   edge-put e h =
       ap accept e ∙ edge-replaced (nodesOf (headWords ws) (actWords ws) (k .nodes)) (k .edges) (edgeWords ws) from code to n i w hf ht (edges-length ws hl) hn hi hw h
 
   -- the search ends behind the last at the latest
   found : i ≤ n
-  found = omega (arith, find-most (keyIs (from + code * 65536)) (take (k .edges) (edgeWords ws)), length-take (k .edges) (edgeWords ws), edges-length ws hl)
+  found = omega (arith, first-most (keyIs (from + code * 65536)) (take (k .edges) (edgeWords ws)), length-take (k .edges) (edgeWords ws), edges-length ws hl)
 
   pub edge-more : {x : Graph} → x ≡ withEdge ws i w (record { nodes = k .nodes; edges = n + 1 }) → n ≤ i → i < 2048 → accept x ≡ addEdge from to (eventAt code) (graphIn ws k)
   edge-more e h l =
@@ -138,7 +138,7 @@ module _ (ws : List ℕ) (k : Counts) (from code to n i w : ℕ) (hf : from < 65
         let l : i < k .edges = omega arith in
         let t : i < length (take (k .edges) (edgeWords ws)) = omega (arith, total) in
         let e : getD (take (k .edges) (edgeWords ws)) i 0 / 65536 ≡ from + code * 65536
-        = eqb-true _ _ (rw (← hi) at (find-has (keyIs (from + code * 65536)) 0 (take (k .edges) (edgeWords ws)) (subst (λ (j : ℕ). j < length (take (k .edges) (edgeWords ws))) hi t))) in
+        = eqb-true _ _ (rw (← hi) at (first-has (keyIs (from + code * 65536)) 0 (take (k .edges) (edgeWords ws)) (subst (λ (j : ℕ). j < length (take (k .edges) (edgeWords ws))) hi t))) in
         rw (lt-ltb i (k .edges) l, es, take-set-lt (k .edges) (edgeWords ws) i w l) (indexed-put (take (k .edges) (edgeWords ws)) i w ls t (key-is ∙ sym e) x)
 
     pub index-more : {es : List ℕ} → es ≡ set (edgeWords ws) i w → n ≤ i → i < 2048 → Indexed (take (n + 1) es) (linkMore ls (k .edges) i (from + code * 65536))

@@ -70,9 +70,10 @@ withNode ws n p k = graphFrom (set (headWords ws) n (p .head)) (set (actWords ws
 
 -- ---- searches
 
-unfoldable pub find : {A : Type 0} → (A → Bool) → List A → ℕ
-find p [] = 0
-find p (x ∷ xs) = if p x then 0 else suc (find p xs)
+-- the place of the first that passes the test, or how many there are
+unfoldable pub firstPlace : {A : Type 0} → (A → Bool) → List A → ℕ
+firstPlace p [] = 0
+firstPlace p (x ∷ xs) = if p x then 0 else suc (firstPlace p xs)
 
 unfoldable pub keyIs : ℕ → ℕ → Bool
 keyIs key w = eqb (w / 65536) key
@@ -123,7 +124,7 @@ linkMore ls n i key = if ltb i n then ls else linkAt ls i key
 pub record Indexed (ws ls : List ℕ) : Type 0 where
   pub long : length ls ≡ 2304
   pub inside : (p : ℕ) → p < 2304 → getD ls p 0 < 2048 → getD ls p 0 < length ws
-  pub finds : (key k : ℕ) → length ws ≤ k → placeOn k ws ls key (getD ls (chainOf key) 0) ≡ find (keyIs key) ws
+  pub finds : (key k : ℕ) → length ws ≤ k → placeOn k ws ls key (getD ls (chainOf key) 0) ≡ firstPlace (keyIs key) ws
 
 -- following as the links lead
 unfoldable pub followLinks : List ClassEntry → List ℕ → List ℕ → ℕ → ℕ → g.Follow

@@ -6,12 +6,12 @@ ghost use mathlib.Core.List.{List};
 ghost use lib.ListN.{take};
 ghost use Rattle.rules.specs.Graph as g;
 ghost use Rattle.keyvalues.specs.View.{eventAt, graphBy, maybeOf};
-ghost use Rattle.keyparts.specs.View.{edgesOf, find, keyIs};
+ghost use Rattle.keyparts.specs.View.{edgesOf, firstPlace, keyIs};
 
 // The place of the first of the first `count` words with this key in its upper 48 bits, or their number. Two words a turn:
 // this loop is most of what adding a binding costs.
 pub(crate) fn scan(edges: &[u64], count: u16, key: u64) -> usize
-    ensures { λ r. ⌜ r ≡ find (keyIs key) (take count (now (edges .entry))) ⌝ }
+    ensures { λ r. ⌜ r ≡ firstPlace (keyIs key) (take count (now (edges .entry))) ⌝ }
 {
     let n = number::least(count, edges.len());
     let mut i = 0usize;

@@ -8,7 +8,7 @@ ghost use mathlib.Core.List.{List};
 ghost use Prim.Native.Nat.{ℕ};
 ghost use lib.ListN.{length};
 ghost use Rattle.rules.specs.Graph as g;
-ghost use Rattle.rules.specs.Calls.{HintFits, FindFits};
+ghost use Rattle.rules.specs.Calls.{HintFits, find};
 ghost use Rattle.keyvalues.specs.View.{nodesOf, graphBy};
 ghost use Rattle.keyparts.specs.View.{foundOf};
 
@@ -18,7 +18,7 @@ pub enum Found {
     Nothing,
 }
 
-// The first node of the mode whose step has the action.
+// The lowest-numbered node of the mode whose step has the action.
 pub(crate) fn find_node<'a>(
     heads: &'a [u64],
     acts: &'a [u64],
@@ -26,7 +26,7 @@ pub(crate) fn find_node<'a>(
     mode: u16,
     action: u16,
 ) -> Found
-    ensures { λ r. ⌜ ((es : List g.Edge) → FindFits (graphBy (nodesOf (now (heads .entry)) (now (acts .entry)) count) es) mode action (foundOf r)) ⌝ }
+    ensures { λ r. ⌜ ((es : List g.Edge) → foundOf r ≡ find (graphBy (nodesOf (now (heads .entry)) (now (acts .entry)) count) es) mode action) ⌝ }
 {
     if TableWords::MODES <= mode {
         return Found::Refused(1);

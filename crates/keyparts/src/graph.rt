@@ -6,7 +6,7 @@ use crate::layout;
 use keyvalues::tables::TableWords;
 ghost use mathlib.Core.Path.{_≡_};
 ghost use Rattle.rules.specs.Graph as g;
-ghost use Rattle.rules.specs.Calls.{HintFits, FindFits};
+ghost use Rattle.rules.specs.Calls.{HintFits, find};
 ghost use Rattle.keyparts.specs.View.{graphOf, foundOf};
 
 // How many words of the nodes and of the edges count.
@@ -62,11 +62,11 @@ impl Graph {
         find::free_nodes(n)
     }
 
-    // Some node of the mode whose step has the action.
+    // The lowest-numbered node of the mode whose step has the action.
     pub fn find(self, mode: u16, action: u16) -> Found
-        ensures { λ r. ⌜ FindFits (graphOf self) mode action (foundOf r) ⌝ }
+        ensures { λ r. ⌜ foundOf r ≡ find (graphOf self) mode action ⌝ }
     {
-        let n = self.counts.nodes;
+        let n = self.counts;
         layout::find_node(&self.words, n, mode, action)
     }
 }

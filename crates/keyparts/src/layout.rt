@@ -5,6 +5,7 @@ use crate::find;
 use crate::find::Found;
 use crate::follow;
 use crate::follow::FollowResult;
+use crate::graph::Counts;
 use crate::graph::Graph;
 use crate::index;
 use crate::index::Index;
@@ -18,10 +19,10 @@ ghost use mathlib.Core.Path.{_≡_};
 ghost use mathlib.Core.List.{List};
 ghost use lib.ListN.{length, take, set, getD};
 ghost use Rattle.rules.specs.Graph as g;
-ghost use Rattle.rules.specs.Calls.{FindFits};
+ghost use Rattle.rules.specs.Calls.{find};
 ghost use Rattle.keyparts.specs.declared.graph.Counts as k;
 ghost use Rattle.keyvalues.specs.View.{eventAt, nodesOf, nodeOf, classesIn, graphBy, maybeOf};
-ghost use Rattle.keyparts.specs.View.{edgesOf, followOf, followLinks, foundOf, graphIn, withEdge, withNode, find, keyIs, edgeWords, headWords, actWords, reached, linkedPlace, linkedEnd, Indexed};
+ghost use Rattle.keyparts.specs.View.{edgesOf, followOf, followLinks, foundOf, graphIn, withEdge, withNode, firstPlace, keyIs, edgeWords, headWords, actWords, reached, linkedPlace, linkedEnd, Indexed};
 
 // Where the nodes' first and second words begin; the edges' words are in front.
 pub(crate) const HEADS: usize = Graph::EDGES as usize;
@@ -31,7 +32,7 @@ const ACTS: usize = HEADS + Graph::NODES as usize;
 // Where the edge with this key stands among the first `count`, or their number.
 pub fn scan(words: &[u64; Graph::WORDS], count: u16, key: u64) -> usize
     requires { ⌜ length (now words) ≡ 4128 ⌝ }
-    ensures { λ r. ⌜ r ≡ find (keyIs key) (take count (edgeWords (now (words .entry)))) ⌝ }
+    ensures { λ r. ⌜ r ≡ firstPlace (keyIs key) (take count (edgeWords (now (words .entry)))) ⌝ }
 {
     let all = &words[..];
     let edges = &all[0..HEADS];
@@ -145,14 +146,15 @@ pub fn node_at(words: &[u64; Graph::WORDS], count: u16, node: u16) -> Node
     node::node_at(heads, acts, count, node)
 }
 
-// The first node of the mode whose step has the action.
-pub fn find_node(words: &[u64; Graph::WORDS], count: u16, mode: u16, action: u16) -> Found
+// The lowest-numbered node of the mode whose step has the action.
+pub fn find_node(words: &[u64; Graph::WORDS], counts: Counts, mode: u16, action: u16) -> Found
     requires { ⌜ length (now words) ≡ 4128 ⌝ }
-    ensures { λ r. ⌜ ((es : List g.Edge) → FindFits (graphBy (nodesOf (headWords (now (words .entry))) (actWords (now (words .entry))) count) es) mode action (foundOf r)) ⌝ }
+    ensures { λ r. ⌜ foundOf r ≡ find (graphIn (now (words .entry)) counts) mode action ⌝ }
 {
     let all = &words[..];
     let heads = &all[HEADS..ACTS];
     let acts = &all[ACTS..Graph::WORDS];
+    let count = counts.nodes;
     find::find_node(heads, acts, count, mode, action)
 }
 

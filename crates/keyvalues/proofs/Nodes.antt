@@ -1,11 +1,11 @@
 -- Nodes in two lists of words.
 use Prim.Native.Nat.{ℕ, zero, suc, _+_, _-_, _/_, _%_, _<_, _≤_, min}
 use mathlib.Core.Path.{_≡_, refl, sym, ap, _∙_}
-use mathlib.Core.Bool.{Bool, true, false, not}
+use mathlib.Core.Bool.{Bool, true, false}
 use mathlib.Core.List.{List, [], _∷_, _++_}
 use native.Mathlib.Omega.{arith}
 use native.Mathlib.Numerals.{add-one}
-use lib.Dec.{ltb, eqb, T}
+use lib.Dec.{ltb, eqb}
 use Rattle.rules.specs.Calls.{HintFits, nodesLeft}
 use lib.ListN.{length, take, set, getD, length-take, List·getD-eq-default}
 use lib.Seq.{getD-take, take-set-lt, take-suc-set, set-out}
@@ -150,12 +150,6 @@ module _ (es : List Edge) (hs ws : List ℕ) (m n node h w o : ℕ) (eh : length
 
 pub nodes-total : (hs ws : List ℕ) (m n k : ℕ) → k ≡ min m (length hs) → n ≡ min k (length ws) → n ≡ length (nodesOf hs ws m)
 nodes-total hs ws m n k ek en = omega (arith, zip-length nodeAt (take m hs) (take m ws), length-take m hs, length-take m ws)
-
-pub test-no : (b : Bool) → b ≡ false → T (not b)
-test-no b e = rw e tt
-
-pub test-yes : (b : Bool) → b ≡ true → T b
-test-yes b e = rw e tt
 
 -- the hint: what is left beside the nodes that are there
 pub hint-fits : (hs ws : List ℕ) (es : List Edge) (m n : ℕ) → length hs ≡ 1040 → length ws ≡ 1040 → n ≡ min m 1040 → HintFits (graphBy (nodesOf hs ws m) es) (1040 - n)

@@ -39,10 +39,10 @@ use denote.Triple.Walked.{says, Stays, stay-ref, hasOf, walkOf, goes-ref, ends-a
 use denote.Exit.{yes}
 use Rattle.lending.proofs.Data.{Data, rowOf, val, Fine, tells, makes, typed}
 use Rattle.lending.proofs.Frame.{Locals, States, frame, Has, Sets, Blocks, at-blocks, locals, nones, has-sits, sets-sits, spot, holds, fills, makes-frame, frees-frame}
-use Rattle.lending.proofs.Args.{Arg, Tuple, below, slots, kepts, stays, from-den, spells, tellss, ends, fit, had, go-all, types-then, later, after, filled, past-has, past-sets, passes-on}
+use Rattle.lending.proofs.Args.{Arg, Tuple, below, slots, kepts, stays, from-den, spells, tellss, ends, fit, had, go-all, types-then, after, filled, passes-on}
 use Rattle.lending.proofs.Spot.{Spot, Struct, data-of, field-of, Load}
 use Rattle.lending.proofs.Loads.{loads}
-use Rattle.lending.proofs.Method.{passed}
+use Rattle.lending.proofs.Method.{Room, past, among, passed}
 use Rattle.lending.proofs.Called.{Called, ref-and-args, vss, given, args, Owned, Tokens}
 
 -- a thin function: the types of the state, of the part that is stored, of the answer and of r; where the part is in the state; where the new part
@@ -72,7 +72,7 @@ Effect f = f .S .of .Value → Tuple (f .Xs) → f .S .of .Value → f .R .of .V
 module _ {n : ℕ} (f : Call n) (first : List Ty) where
   open Call f using (S, L, R, P, at, new, ans, Ls, Xs)
 
-  abbrev pub temps : List Ty
+  abbrev temps : List Ty
   temps = first ++ types-then 0 (loads n Ls) []
 
   abbrev pub lent : Ended
@@ -81,7 +81,7 @@ module _ {n : ℕ} (f : Call n) (first : List Ty) where
   abbrev stayed : Stays (lent .signature .params) (lent .kept)
   stayed = (stay-ref (0 ∷ []) tt (plain (λ _. rowOf S)), stays (below n) Xs)
 
-  abbrev pub ref : Ty
+  abbrev ref : Ty
   ref = tyRef (named 0) mut (pointee (rowOf S .written))
 
   abbrev pub kinds : List Ty
@@ -101,41 +101,26 @@ module _ {n : ℕ} (f : Call n) (first : List Ty) where
   abbrev pub function : Code → Fn
   function body = record { lifetimes = suc n; outlives = []; params = suc (after Xs zero); locals = locals kinds; body = body }
 
-  abbrev pub env : Blocks kinds → Locals
+  abbrev env : Blocks kinds → Locals
   env bs = at-blocks kinds bs
-
-  -- the blocks of the parameters and what follows them, of r, and of CALL's own locals
-  abbrev pub param-blocks : Blocks kinds → Blocks (types-then 1 Xs (P .mir ∷ temps))
-  param-blocks bs = bs .1 .1
-
-  abbrev result-block : Blocks kinds → ℕ
-  result-block bs = later 1 Xs (P .mir ∷ temps) (param-blocks bs) .0
-
-  abbrev pub temp-blocks : Blocks kinds → Blocks temps
-  temp-blocks bs = later 1 Xs (P .mir ∷ temps) (param-blocks bs) .1
 
   module _ (c : Called S Xs) where
     open Called c using (κ, q, κs, qs, b, o, γ, h, a)
 
     -- what the locals hold
-    abbrev pub state : Option Val → Option Val → States → States
+    abbrev state : Option Val → Option Val → States → States
     state s p ts = s ∷ some (vptr b o) ∷ filled Xs (given c) (p ∷ ts)
 
-    pub sets-temp : (bs : Blocks kinds) (i : ℕ) (τ : Ty) (d : ℕ) (v : Val) (ss ts : States) → Sets (at-blocks temps (temp-blocks bs)) ss i τ d v ts → Sets (env bs) (state none none ss) (temp i) τ d v (state none none ts)
-    sets-temp bs i τ d v ss ts e = (refl, (refl, past-sets 1 Xs (P .mir ∷ temps) (param-blocks bs) (given c) (none ∷ ss) (none ∷ ts) (suc i) τ d v (refl, e)))
+    -- r, and CALL's own locals
+    abbrev all : (bs : Blocks kinds) → Room c (P .mir ∷ temps) (env bs) (λ i. suc (suc (after Xs i))) (λ ts. none ∷ some (vptr b o) ∷ filled Xs (given c) ts)
+    all bs = among c (R .mir) ref (P .mir ∷ temps) bs
 
-    pub has-temp : (bs : Blocks kinds) (i : ℕ) (τ : Ty) (d : ℕ) (v : Val) (ts : States) → Has (at-blocks temps (temp-blocks bs)) ts i τ d v → Has (env bs) (state none none ts) (temp i) τ d v
-    has-temp bs i τ d v ts e = past-has 1 Xs (P .mir ∷ temps) (param-blocks bs) (given c) (none ∷ ts) (suc i) τ d v e
-
-    has-result : (bs : Blocks kinds) (s : Option Val) (v : Val) (ts : States) → Has (env bs) (state s (some v) ts) result (P .mir) (result-block bs) v
-    has-result bs s v ts = past-has 1 Xs (P .mir ∷ temps) (param-blocks bs) (given c) (some v ∷ ts) zero (P .mir) (result-block bs) v (refl, refl)
-
-    sets-result : (bs : Blocks kinds) (v : Val) (ts : States) → Sets (env bs) (state none none ts) result (P .mir) (result-block bs) v (state none (some v) ts)
-    sets-result bs v ts = (refl, (refl, past-sets 1 Xs (P .mir ∷ temps) (param-blocks bs) (given c) (none ∷ ts) (some v ∷ ts) zero (P .mir) (result-block bs) v (refl, refl)))
+    abbrev pub room : (bs : Blocks kinds) → Room c temps (env bs) temp (state none none)
+    room bs = past c (all bs) none
 
     -- the state's cell, and what stays open
     module _ {M : Type 1} (𝓤 : URA M) where
-      abbrev pub Cell : S .of .Value → Item 𝓤
+      abbrev Cell : S .of .Value → Item 𝓤
       Cell y = ‵ (fat fullShare (S .mir) b o (val S y))
 
       abbrev pub Open : List (Item 𝓤)
@@ -166,7 +151,7 @@ module _ {n : ℕ} (f : Call n) (first : List Ty) where
         starts body are w =
             qed W (((‵ (flft κ q) ⊛ raw (toks 𝓤 A n κs qs)) ⊛ ‵ (owns (MutRef (named 0) κ (rowOf S) ∷ typesAt (slots (below n) Xs) (κ, κs)) (ref-and-args c) (vptr b o ∷ [], vss c))) ∷ raw (emp 𝓤) ∷ []) ∵ enter ! C Λ (function body) (args c) _ $
             makes-frame ! kinds (λ bs. params1 ! $ pass1 ! (fills ! 0 (env bs) (nones kinds) (none ∷ some (vptr b o) ∷ nones (types-then 1 Xs (P .mir ∷ temps))) 1 refl (refl, (refl, refl)) (tt, tt)) $
-            passes-on ! (below n) (κ, κs) (env bs) Xs (P .mir ∷ temps) (param-blocks bs) (λ i. suc (suc i)) (λ ss. none ∷ some (vptr b o) ∷ ss) a (λ i τ c v ss ts s. (refl, (refl, s))) are
+            passes-on ! (below n) (κ, κs) (env bs) Xs (P .mir ∷ temps) (bs .1 .1) (λ i. suc (suc i)) (λ ss. none ∷ some (vptr b o) ∷ ss) a (λ i τ c v ss ts s. (refl, (refl, s))) are
             (move ! (1 ∷ []) $ split ! $ move ! (1 ∷ []) $ fsplit ! $ fsplit3 ! $ drop ! $ move ! (3 ∷ []) $ split ! $ move ! (2 ∷ 3 ∷ 0 ∷ []) $
             opens ! tt (rowOf S) {h = h} b o (λ vs. spelt ! (rowOf S) (Is (rowOf S)) (shows 𝓤 H A (rowOf S)) (λ y. val S y ∷ []) (tells S) fullShare h vs b o $
             use1 W (Cell c 𝓤 h) (W .laws .raw-at fullShare (S .mir) b o (val S h)) $ move ! (1 ∷ []) $
@@ -181,9 +166,10 @@ module _ {n : ℕ} (f : Call n) (first : List Ty) where
             let E : Locals = env bs in
             let s : States = state c none (some u) ts in
             let last : States = state c (some (val R (ans .get r))) (some u) ts in
-            let here : Has E s result (P .mir) _ u = has-result c bs none u ts in
+            let sets : Sets E (state c none none ts) result (P .mir) _ v (state c none (some v) ts) = all c bs .sets zero _ _ v (none ∷ ts) (some v ∷ ts) (refl, refl) in
+            let here : Has E s result (P .mir) _ u = all c bs .has zero _ _ u (some u ∷ ts) (refl, refl) in
             let end : S .of .Value = at .put y (new .get r) in
-            land ! (spot ! (sets-sits E (state c none none ts) result _ _ v (state c none (some v) ts) (sets-result c bs v ts)) (stop !)) (fills ! 0 E (state c none none ts) (state c none (some v) ts) result refl (sets-result c bs v ts) (P .laws .lawful 𝓤 H A W .typed (P .of .into r) (v ∷ []) is .0)) $
+            land ! (spot ! (sets-sits E (state c none none ts) result _ _ v (state c none (some v) ts) sets) (stop !)) (fills ! 0 E (state c none none ts) (state c none (some v) ts) result refl sets (P .laws .lawful 𝓤 H A W .typed (P .of .into r) (v ∷ []) is .0)) $
             rewrite ! 0 (λ (w : Val). frame 𝓤 E (state c none (some w) ts)) (ap only (tells P r (v ∷ []) is)) refl $
             assigns ! (of-opd ! (load ! (spot ! (has-sits E s result _ _ u here) (new .leads ! (stop !))) (look-in ! 0 (new .inside ! r (holds ! E s result _ _ u here)))))
             (spot ! refl (hop ! (look-in ! 0 (holds ! E s 1 ref _ (vptr b o) (refl, refl))) (at .leads ! (stop !)))) (store-in ! 1 (at .inside ! y (whole !)) (typed 𝓤 H A L W (new .get r) (new .fine r held))) $

@@ -15,7 +15,7 @@ use Rattle.rules.specs.Values.{Event, Key, Class, Any, Fallthrough, Repe
 use Rattle.rules.specs.Tables.{ClassEntry, ModeEntry, Rule, Tables, noTables, open-Tables}
 use Rattle.rules.specs.Graph.{NodeAction, Empty, Root, Holds, Node, Graph, freshGraph, addNode, putEdge, open-Graph}
 use Rattle.rules.specs.KeyLoop.{tracker, noTracker, open-KeyLoop}
-use Rattle.rules.specs.Calls.{Call, Open, Map, Prefix, Pop, Repeats, Reset, Accepted, Refused, Nothing, PressRefused, Machine, graphKind, fresh, bind, leaves, holdsAction, FindFits, nodesLeft, HintFits, open-Calls}
+use Rattle.rules.specs.Calls.{Call, Open, Map, Prefix, Pop, Repeats, Reset, Accepted, Refused, Nothing, PressRefused, Machine, graphKind, fresh, bind, leaves, holdsAction, find, nodesLeft, HintFits, open-Calls}
 use Rattle.rules.specs.Numbers.{open-Numbers}
 use Rattle.rules.specs.MapFile.{readBindings, readMap, open-MapFile}
 use Rattle.rules.specs.Run.{mostOutput, mostInput, playBudget, linesOf, decimal, refusal, textOf, playInput, keyplay, open-Run}
@@ -507,13 +507,34 @@ pub keeps-hold : (map (binds (Maps 0 (one (Key a)) (does 1))) nearly-full-and-fu
 unfolding open-Basics open-Values open-Tables open-Graph open-KeyLoop open-Calls open-Numbers open-MapFile
 keeps-hold = (refl, refl, refl, refl)
 
--- find: mode 16 is 1; in mode 3 a node whose step has the action, and "none" only where there is none
-abbrev pub with-step : Graph
-with-step = record { nodes = node Empty ∷ node (Holds (does 7)) ∷ []; edges = [] }
+-- The nodes that these make: 16 and 17 with action 1, the higher for the lower key; 18 in mode 1, flagged; 19, which enters mode 1;
+-- in mode 2 the root itself gets action 1 (E7), and 20; 21 in mode 3, to which no key leads any more (E6)
+abbrev pub shown : List Call
+shown =
+    Map 0 (one (Key b)) (does 1)
+    ∷ Map 0 (one (Key a)) (does 1)
+    ∷ Map 1 (one (Key a)) (record { flag = true; actions = 4 ∷ 3 ∷ []; next = none; fallthrough = none; mark = none })
+    ∷ Map 0 (one (Key j)) (record { flag = false; actions = []; next = some 1; fallthrough = none; mark = none })
+    ∷ Prefix 2 (one (Key a)) none
+    ∷ Map 2 (one (Key a)) (does 1)
+    ∷ Map 2 (one (Key b)) (does 1)
+    ∷ Map 3 (one (Key a)) (does 6)
+    ∷ Prefix 3 (one (Key a)) none
+    ∷ []
 
-pub finds-hold : FindFits with-step 16 7 (refuse 1) × FindFits with-step 3 7 (accept (some 1)) × (FindFits with-step 3 7 (accept none) → ⊥) × (FindFits with-step 3 7 (accept (some 0)) → ⊥)
-unfolding open-Basics open-Values open-Graph open-Calls
-finds-hold = ((refl, omega arith), (omega arith, omega arith, tt), (λ h. h .1 1 (omega arith)), (λ h. h .2))
+-- The lowest; one in another mode alone; the second action of a flagged step; action 0, which j's step gives and does not have; a
+-- root before a higher node; a step that no key runs; a mode without bindings; mode 16
+pub finds-hold : let g = leaves graphKind (fresh graphKind noTables) shown .bindings in
+    (find g 0 1 ≡ accept (some 16))
+    × (find g 1 1 ≡ accept none)
+    × (find g 1 3 ≡ accept (some 18))
+    × (find g 0 0 ≡ accept none)
+    × (find g 2 1 ≡ accept (some 2))
+    × (find g 3 6 ≡ accept (some 21))
+    × (find g 15 1 ≡ accept none)
+    × (find g 16 1 ≡ refuse 1)
+unfolding open-Basics open-Values open-Tables open-Graph open-KeyLoop open-Calls
+finds-hold = (refl, refl, refl, refl, refl, refl, refl, refl)
 
 -- a hint may be 1 while nodes are left, and not 0; when none is left it is 0
 pub hints-hold : HintFits (with-nodes 16) 1 × (HintFits (with-nodes 16) 0 → ⊥) × HintFits (with-nodes 1040) 0 × (HintFits (with-nodes 1040) 1 → ⊥)

@@ -1,14 +1,14 @@
 -- Document 01, "Refused calls, operation by operation": open, map, prefix, key, pop, repeat, reset and mode on a machine
--- over any store of bindings; the graph machine; lists of calls; and what holds of find and of the node hint.
-use Prim.Native.Nat.{ℕ, _+_, _-_, _≤_, _<_}
+-- over any store of bindings; the graph machine; lists of calls; find; and what holds of the node hint.
+use Prim.Native.Nat.{ℕ, suc, _+_, _-_, _≤_}
 use mathlib.Core.Path.{_≡_}
-use mathlib.Core.Bool.{Bool, false, not, _&&_}
+use mathlib.Core.Bool.{Bool, false, _&&_}
 use mathlib.Core.Option.{Option, none, some}
 use mathlib.Core.List.{List, [], _∷_, _++_}
-use lib.Dec.{T, eqb, ltb}
+use lib.Dec.{eqb, ltb}
 use lib.ListN.{length}
 use Rattle.rules.specs.Basics.{if_then_else_, Result, accept, refuse, _>>=_, unless, some-of}
-use Rattle.rules.specs.Values.{modeCount, mostNodes, mostKept, defaultMode, Event, Part, Step, mapValid, prefixValid, Binding, Maps, Prefixes, Context, Pair}
+use Rattle.rules.specs.Values.{modeCount, mostNodes, mostKept, isMode, defaultMode, Event, Part, Step, mapValid, prefixValid, Binding, Maps, Prefixes, Context, Pair}
 use Rattle.rules.specs.Tables.{Tables, tablesValid}
 use Rattle.rules.specs.Graph.{NodeAction, Empty, Root, Holds, Node, Graph, freshGraph, getNode, hasEdges, Follow, Successor, FallsTo, NoSuccessor, followEdge, addMapping, addPrefix}
 use Rattle.rules.specs.KeyLoop.{Shared, freshShared, withQueue, Again, ClearTrail, Consumed, NeedMore, Unmapped, RunStep, RetryAfter, Turn, Navigator, State, at, Input, KeyResult, inputKey, resetMode, repeatSequence}
@@ -184,8 +184,10 @@ graphNavigator g = record {
 abbrev pub graphKind : Kind
 graphKind = record { Bindings = Graph; Place = ℕ; none-yet = freshGraph; map-in = addMapping; prefix-in = addPrefix; navigator = graphNavigator }
 
--- ---- find and node hint, which are left free: what holds of an answer
+-- ---- find (document 02, request (ii))
 
+-- is the action in the list of the node's step, flagged or not? One that the step gives without having it, as action 0 for a next
+-- mode alone, is not
 unfoldable pub does : ℕ → NodeAction → Bool
 does a Empty = false
 does a Root = false
@@ -194,11 +196,16 @@ does a (Holds s) = some-of (eqb a) (s .actions)
 unfoldable pub holdsAction : ℕ → ℕ → Node → Bool
 holdsAction mode a n = eqb (n .mode) mode && does a (n .action)
 
--- find: 1 mode over 15; else some node of that mode whose step has the action, or "none" if no node has
-abbrev pub FindFits : Graph → ℕ → ℕ → Result (Option ℕ) → Type 0
-FindFits g mode a (refuse n) = (n ≡ 1) × (modeCount ≤ mode)
-FindFits g mode a (accept none) = (mode < modeCount) × ((n : ℕ) → n < length (g .nodes) → T (not (holdsAction mode a (getNode g n))))
-FindFits g mode a (accept (some n)) = (mode < modeCount) × (n < length (g .nodes)) × T (holdsAction mode a (getNode g n))
+-- the number of the first node that passes the test, where the nodes are numbered from n on
+unfoldable pub firstNode : (Node → Bool) → ℕ → List Node → Option ℕ
+firstNode p n [] = none
+firstNode p n (x ∷ xs) = if p x then some n else firstNode p (suc n) xs
+
+-- find: 1 mode over 15; else the lowest-numbered node of that mode whose step has the action, or "none" if there is none
+unfoldable pub find : Graph → ℕ → ℕ → Result (Option ℕ)
+find g mode a = unless (isMode mode) 1 (accept (firstNode (holdsAction mode a) 0 (g .nodes)))
+
+-- ---- the node hint, which is left free: what holds of an answer
 
 unfoldable pub nodesLeft : Graph → ℕ
 nodesLeft g = modeCount + mostNodes - length (g .nodes)
@@ -209,5 +216,5 @@ HintFits g h = (h ≤ nodesLeft g) × (h ≡ 0 → nodesLeft g ≡ 0)
 
 -- ---- everything above, to be opened by one name where a run is computed
 unfoldable pub open-Calls : Unit {0}
-unfolding fresh open-with keep map-call prefix-call bind bindAll key-call repeat-call reset-call mode-call settled pressed popped call history leaves arrive land turnBy graphNavigator does holdsAction nodesLeft
+unfolding fresh open-with keep map-call prefix-call bind bindAll key-call repeat-call reset-call mode-call settled pressed popped call history leaves arrive land turnBy graphNavigator does holdsAction firstNode find nodesLeft
 open-Calls = tt

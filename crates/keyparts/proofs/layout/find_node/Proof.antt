@@ -27,7 +27,7 @@ find-node-requires c κs = search needs
 
 returns : tie.Need-returns
 unfolding headWords actWords
-returns c = c .find-node .ensures
+returns c = c .find-node .ensures _
 
 pub find-node-spec : {M : Type 1} → statement M
 find-node-spec =
