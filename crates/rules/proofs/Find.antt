@@ -12,7 +12,7 @@ use lib.ListN.{length, getD}
 use borrow.Author.Count.{below-more}
 use borrow.Author.Tests.{ltb-true, ltb-false}
 use Rattle.rules.specs.Basics.{if_then_else_, Result, accept, refuse, unless, some-of}
-use Rattle.rules.specs.Values.{isMode, Step}
+use Rattle.rules.specs.Values.{Step}
 use Rattle.rules.specs.Graph.{NodeAction, Empty, Root, Holds, Node, Graph, noNode, getNode}
 use Rattle.rules.specs.Calls.{does, holdsAction, firstNode, find}
 use Rattle.rules.proofs.Tests.{by-cases, no-way, and-l, and-r, or-r, eqb-is, eqb-same}
