@@ -114,8 +114,8 @@ static void tell_mode(void) {
     printf("mode %u\n", (unsigned)keymap_mode(machine));
 }
 
-/* The help screen: in which mode a key does what. Of several keys for one action the first to be bound is shown, its node being
-   the lowest; so two scanners with the same map show the same. */
+/* The help screen: in which mode a key does what. Of several keys for one action that with the lowest node is shown, mostly the
+   first that was bound; so two scanners with the same map show the same. */
 static void tell_help(void) {
     for (size_t i = 0; i < NAMES; i++) {
         int bound = 0;
