@@ -118,32 +118,32 @@ among ns (refuses n h) = h
 -- open, of any machine: 1
 pub open_refuses : (𝓚 : Kind) (t : Tables) → RefusedAmong (1 ∷ []) (open_with 𝓚 t)
 unfolding some_of
-open_refuses 𝓚 t = among _ (open_always 𝓚 tt t)
+open_refuses 𝓚 t = among (1 ∷ []) (open_always 𝓚 tt t)
 
 -- map: 1, 2, 3, 4, 11
 pub map_refuses : (mode : ℕ) (path : List Part) (st : Step) (s : Machine graph_kind) → RefusedAmong (1 ∷ 2 ∷ 3 ∷ 4 ∷ 11 ∷ []) (map_call graph_kind mode path st s)
 unfolding some_of
-map_refuses mode path st s = among _ (map_always tt tt tt tt tt (λ _. Unit {0}) (λ _ _ _ _ _. tt) mode path st s tt)
+map_refuses mode path st s = among (1 ∷ 2 ∷ 3 ∷ 4 ∷ 11 ∷ []) (map_always tt tt tt tt tt (λ _. Unit {0}) (λ _ _ _ _ _. tt) mode path st s tt)
 
 -- prefix: the same
 pub prefix_refuses : (mode : ℕ) (path : List Part) (os : Option Step) (s : Machine graph_kind) → RefusedAmong (1 ∷ 2 ∷ 3 ∷ 4 ∷ 11 ∷ []) (prefix_call graph_kind mode path os s)
 unfolding some_of
-prefix_refuses mode path os s = among _ (prefix_always tt tt tt tt tt (λ _. Unit {0}) (λ _ _ _ _ _. tt) mode path os s tt)
+prefix_refuses mode path os s = among (1 ∷ 2 ∷ 3 ∷ 4 ∷ 11 ∷ []) (prefix_always tt tt tt tt tt (λ _. Unit {0}) (λ _ _ _ _ _. tt) mode path os s tt)
 
 -- a key, of any machine: 8, 6, 5, 7
 pub key_refuses : (𝓚 : Kind) (i : Input) (s : Machine 𝓚) → RefusedAmong (8 ∷ 6 ∷ 5 ∷ 7 ∷ []) (key_call 𝓚 i s).result
 unfolding some_of
-key_refuses 𝓚 i s = among _ (key_always 𝓚 tt tt tt tt i s)
+key_refuses 𝓚 i s = among (8 ∷ 6 ∷ 5 ∷ 7 ∷ []) (key_always 𝓚 tt tt tt tt i s)
 
 -- repeat, of any machine: 1, 5
 pub repeat_refuses : (𝓚 : Kind) (q : ℕ) (over : Option Context) (s : Machine 𝓚) → RefusedAmong (1 ∷ 5 ∷ []) (repeat_call 𝓚 q over s)
 unfolding some_of
-repeat_refuses 𝓚 q over s = among _ (repeat_always 𝓚 tt tt q over s)
+repeat_refuses 𝓚 q over s = among (1 ∷ 5 ∷ []) (repeat_always 𝓚 tt tt q over s)
 
 -- reset, of any machine: 6, 5
 pub reset_refuses : (𝓚 : Kind) (s : Machine 𝓚) → RefusedAmong (6 ∷ 5 ∷ []) (reset_call 𝓚 s)
 unfolding some_of
-reset_refuses 𝓚 s = among _ (reset_always 𝓚 tt tt s)
+reset_refuses 𝓚 s = among (6 ∷ 5 ∷ []) (reset_always 𝓚 tt tt s)
 
 -- a pop, of any machine: none
 pub pop_never_refuses : (𝓚 : Kind) (s : Machine 𝓚) (n : ℕ) → says_refused n (call 𝓚 s Pop).1 ≡ false
@@ -157,7 +157,7 @@ pop_never_refuses 𝓚 s n = go s.state.shared.queue
 -- a map file: 9, 1, and what a map or prefix call refuses
 pub file_refuses : (bs : List ℕ) → RefusedAmong (9 ∷ 1 ∷ 2 ∷ 3 ∷ 4 ∷ 11 ∷ []) (read_map bs)
 unfolding some_of
-file_refuses bs = among _ (file_always tt tt tt tt tt tt bs)
+file_refuses bs = among (9 ∷ 1 ∷ 2 ∷ 3 ∷ 4 ∷ 11 ∷ []) (file_always tt tt tt tt tt tt bs)
 
 -- writing a map file: 10
 pub write_refuses : (t : Tables) (xs : List Binding) (lent : ℕ) → RefusedAmong (10 ∷ []) (written t xs lent)
@@ -171,7 +171,7 @@ run_numbers = 9 ∷ 1 ∷ 2 ∷ 3 ∷ 4 ∷ 11 ∷ 8 ∷ 6 ∷ 5 ∷ 7 ∷ 10 �
 -- a run: these
 pub run_refuses : (map keys : List ℕ) (budget lent : ℕ) → RefusedAmong run_numbers (run map keys budget lent)
 unfolding some_of
-run_refuses map keys budget lent = among _ (run_always tt tt tt tt tt tt tt tt tt tt tt map keys budget lent)
+run_refuses map keys budget lent = among run_numbers (run_always tt tt tt tt tt tt tt tt tt tt tt map keys budget lent)
 
 -- the bytes written, 0 if refused
 abbrev pub length_of : Result (List Pair) → ℕ

@@ -4,7 +4,7 @@
 -- 2,048 edges.
 use Prim.Native.Nat.{ℕ, ◌+◌, ◌<◌, ◌≤◌}
 use native.Mathlib.Omega.{arith}
-use mathlib.Core.Path.{◌≡◌, refl, sym, ap, ap₂, ◌∙◌}
+use mathlib.Core.Path.{◌≡◌, refl, sym, ap, ap₂, subst, ◌∙◌}
 use mathlib.Core.Bool.{true, false, ◌||◌, false≢true}
 use mathlib.Core.Option.{Option, none, some}
 use mathlib.Core.List.{List, [], ◌∷◌, ◌++◌}
@@ -104,7 +104,7 @@ module _ {g : Graph} {ds : List Place} {a : Place → Option Step} {f : Place �
     where
       hit : (r ≡ q) × (d ≡ e) → get_edge g₁ j d ≡ some (mode_count + length ds)
       hit b =
-          let w : number q (next ∷ ds) ≡ some j = rw b.0 at h in
+          let w : number q (next ∷ ds) ≡ some j = subst (λ (x : Place). number x (next ∷ ds) ≡ some j) b.0 h in
           let ji : j ≡ i = cc (still q i here, w) in
           rw (ji, b.1, ← H.size) (get_same g g₁.nodes i e (length g.nodes))
 
@@ -127,7 +127,7 @@ module _ {g : Graph} {ds : List Place} {a : Place → Option Step} {f : Place �
       closed : (r : Place) (d : Event) → number r (next ∷ ds) ≡ none → number (further r d) (next ∷ ds) ≡ none
       closed r d h =
           by_cases (same_place (further r d) next)
-          (λ s. let w : number q (next ∷ ds) ≡ none = rw (further_is r q d e s).0 at h in void (sym w ∙ still q i here))
+          (λ s. let w : number q (next ∷ ds) ≡ none = subst (λ (x : Place). number x (next ∷ ds) ≡ none) (further_is r q d e s).0 h in void (sym w ∙ still q i here))
           (λ s. rw s (H.tree.closed r d (number_none r next ds h)))
 
       turning : (r : Place) → number (further r Fallthrough) (next ∷ ds) ≡ none
