@@ -1,4 +1,6 @@
 // What the benchmark measures, in a form that C and Rust can call. Nothing of the product uses this crate.
+#![tactic(auto)]
+
 pub mod calls;
 
 ghost use Rattle.std.specs.Prelude.{◌≡◌, length};

@@ -3,6 +3,8 @@
 //
 // An answer has how many pairs there were above 32 bits that depend on every number of every pair and on their order, so that
 // nobody times other work than the Rust's.
+#![tactic(auto)]
+
 ghost use Rattle.std.specs.Prelude.{◌≡◌, length};
 
 use keptcalls::call::BindingCall;

@@ -1,4 +1,6 @@
 // Plays the list of calls of standard input and prints the answers.
+#![tactic(auto)]
+
 use libc::STDIN_FILENO;
 
 fn main() {

@@ -1,5 +1,7 @@
 // Plays many inputs of a program framed in one. A frame is two numbers, whose sum is a length, and then so many bytes. (One
 // number could not be 65,537, the least length that a program refuses.)
+#![tactic(auto)]
+
 ghost use Rattle.std.specs.Prelude.{◌<◌, length};
 ghost use Rattle.framed.specs.Frames.{FrameFits};
 
@@ -8,14 +10,14 @@ use mapfile::number;
 use mapfile::number::Read;
 
 // The program whose inputs they are.
-#[derive(Drop)]
+#[derive(Clone, Copy)]
 pub enum Player {
     Keyplay,
     Callplay,
 }
 
 // Where an input stands.
-#[derive(Drop)]
+#[derive(Clone, Copy)]
 enum Frame {
     Whole { start: usize, end: usize },
     Broken,

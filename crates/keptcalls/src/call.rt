@@ -3,7 +3,7 @@ use keyvalues::path::EdgePath;
 use keyvalues::step::Step;
 
 // A mapping (kind 0), a prefix (1) or a prefix with the step (2).
-#[derive(Drop)]
+#[derive(Clone, Copy)]
 pub struct BindingCall {
     pub kind: u16,
     pub mode: u16,

@@ -12,7 +12,7 @@ use keyvalues::answer::Answer;
 use keyvalues::{copy, number};
 
 // How many calls are kept then, and what the call comes to.
-#[derive(Drop)]
+#[derive(Clone, Copy)]
 pub struct KeepResult {
     pub count: u16,
     pub answer: Answer,

@@ -1,4 +1,6 @@
 // The binding calls that a machine keeps, in words: how a call is packed, kept behind those before it, and read again.
+#![tactic(auto)]
+
 pub mod call;
 pub mod keep;
 mod pack;

@@ -6,7 +6,7 @@ use crate::call::BindingCall;
 use keyvalues::number;
 
 // The small numbers of a call and its step. Next mode, fallthrough and mark are as a map file writes them.
-#[derive(Drop)]
+#[derive(Clone, Copy)]
 pub struct CallHead {
     pub kind: u16,
     pub mode: u16,

@@ -16,7 +16,7 @@ use keyparts::graph::{Counts, Graph};
 use keyvalues::answer::Answer;
 
 // What a call leaves beside the words: the graph's counts, and how many calls are kept.
-#[derive(Drop)]
+#[derive(Clone, Copy)]
 pub struct BindResult {
     pub counts: Counts,
     pub kept: u16,

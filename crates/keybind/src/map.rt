@@ -17,7 +17,7 @@ use keyvalues::step::Step;
 use keyvalues::tables::TableWords;
 
 #[repr(C)]
-#[derive(Drop)]
+#[derive(Clone, Copy)]
 pub struct Map {
     pub graph: Graph,
     pub tables: TableWords,
@@ -25,7 +25,7 @@ pub struct Map {
 }
 
 // The map after a binding call, and the call's answer.
-#[derive(Drop)]
+#[derive(Clone, Copy)]
 pub struct MapResult {
     pub map: Map,
     pub answer: Answer,

@@ -1,4 +1,6 @@
 // Plays many inputs of `keyplay`, framed in one standard input.
+#![tactic(auto)]
+
 use framed::Player;
 use libc::STDIN_FILENO;
 

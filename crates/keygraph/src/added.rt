@@ -3,7 +3,7 @@ use keyparts::graph::Counts;
 use keyvalues::answer::Answer;
 
 // Where the answer is a refusal, neither the words nor the counts are a graph's.
-#[derive(Drop)]
+#[derive(Clone, Copy)]
 pub struct AddResult {
     pub counts: Counts,
     pub answer: Answer,

@@ -17,7 +17,7 @@ use keyvalues::{event, number};
 
 // `prev` is the node come to, `owed` whether a Fallthrough edge is owed from there, and `refusal` the number of the
 // refusal met, or 0.
-#[derive(Drop)]
+#[derive(Clone, Copy)]
 pub struct Cursor {
     pub counts: Counts,
     pub prev: u16,
@@ -26,7 +26,7 @@ pub struct Cursor {
 }
 
 // A cursor with a node that was made or found.
-#[derive(Drop)]
+#[derive(Clone, Copy)]
 pub struct NodeResult {
     pub cursor: Cursor,
     pub node: u16,

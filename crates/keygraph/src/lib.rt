@@ -5,6 +5,8 @@
 // A graph is kept in one array of words with two counts, so that the functions that add work in place and lend one array
 // to each call. What a graph is made of, where its words stand, and what is only read from it, stands in the crates below
 // and is handed on from here.
+#![tactic(auto)]
+
 pub mod added;
 mod cursor;
 mod indexed;

@@ -24,7 +24,7 @@ const TRAIL: usize = State::TRAIL as usize;
 const STACK: usize = 2 * TRAIL + 1;
 
 // What a key came to. Refused, `refusal` and `rounds` are all that is promised of it and of the lent arrays.
-#[derive(Drop)]
+#[derive(Clone, Copy)]
 pub struct InputKeyResult {
     pub refusal: u16,
     pub rounds: u16,
@@ -33,7 +33,7 @@ pub struct InputKeyResult {
 
 // The same between the loop and its callers. The loop has several callers in one archive, so it is called and not built into
 // them; numbers that are stored one by one and then loaded together make the processor wait, so four cross as one word.
-#[derive(Drop)]
+#[derive(Clone, Copy)]
 struct InputWordResult {
     refusal: u16,
     rounds: u16,

@@ -17,7 +17,7 @@ use keyvalues::step::Step;
 use keyvalues::tables::TableWords;
 
 // The step of `RunStep` and `RetryAfter` stands beside the result, since an enum here holds no array.
-#[derive(Drop)]
+#[derive(Clone, Copy)]
 pub enum InputResult {
     Again,
     ClearTrail,
@@ -28,7 +28,7 @@ pub enum InputResult {
     RetryAfter,
 }
 
-#[derive(Drop)]
+#[derive(Clone, Copy)]
 pub struct TurnResult {
     pub result: InputResult,
     pub state: State,

@@ -2,6 +2,8 @@
 // rules' `call` on what the machine means, by the views of specs/View.antt; find and hint to what the rules leave free.
 //
 // What a machine keeps and is opened with stands in the crates below and is handed on from here.
+#![tactic(auto)]
+
 pub mod live;
 pub mod machine;
 pub mod scanner;

@@ -24,7 +24,7 @@ use keypairs::{mode, tracker};
 
 // The queue, the sequences and the trail are words, of which the state says how many count.
 #[repr(C)]
-#[derive(Drop)]
+#[derive(Clone, Copy)]
 pub struct Live {
     pub queue: [u64; Pair::QUEUE as usize],
     pub sequences: [u64; SequenceTracker::ALL],
@@ -33,32 +33,32 @@ pub struct Live {
 }
 
 // A key's answer, with the rounds that were made.
-#[derive(Drop)]
+#[derive(Clone, Copy)]
 pub enum Pressed {
     Accepted { rounds: u16 },
     Refused { number: u16, rounds: u16 },
 }
 
-#[derive(Drop)]
+#[derive(Clone, Copy)]
 pub struct LiveKeyResult {
     pub live: Live,
     pub answer: Pressed,
 }
 
-#[derive(Drop)]
+#[derive(Clone, Copy)]
 pub enum Waiting {
     Pair(Pair),
     Nothing,
 }
 
-#[derive(Drop)]
+#[derive(Clone, Copy)]
 pub struct LivePopResult {
     pub live: Live,
     pub answer: Waiting,
 }
 
 // What repeat and reset hand back.
-#[derive(Drop)]
+#[derive(Clone, Copy)]
 pub struct LiveResult {
     pub live: Live,
     pub answer: Answer,

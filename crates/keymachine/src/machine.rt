@@ -21,26 +21,26 @@ use keypairs::context::Override;
 use keytables::tables::Tables;
 
 #[repr(C)]
-#[derive(Drop)]
+#[derive(Clone, Copy)]
 pub struct ModalMachine {
     pub map: Map,
     pub live: Live,
 }
 
 // What open, repeat and reset hand back.
-#[derive(Drop)]
+#[derive(Clone, Copy)]
 pub struct CallResult {
     pub machine: ModalMachine,
     pub answer: Answer,
 }
 
-#[derive(Drop)]
+#[derive(Clone, Copy)]
 pub struct KeyResult {
     pub machine: ModalMachine,
     pub answer: Pressed,
 }
 
-#[derive(Drop)]
+#[derive(Clone, Copy)]
 pub struct PopResult {
     pub machine: ModalMachine,
     pub answer: Waiting,

@@ -14,13 +14,13 @@ use keygraph::path::EdgePath;
 use keygraph::step::Step;
 
 #[repr(C)]
-#[derive(Drop)]
+#[derive(Clone, Copy)]
 pub struct Scanner {
     pub machine: ModalMachine,
     pub kept: [u64; BindingCall::ALL_WORDS],
 }
 
-#[derive(Drop)]
+#[derive(Clone, Copy)]
 pub struct ScannerResult {
     pub scanner: Scanner,
     pub answer: Answer,

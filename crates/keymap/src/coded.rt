@@ -30,21 +30,21 @@ use mapparts::binding;
 use mapparts::place::FilePlace;
 
 // The machine after a call, and its answer's number.
-#[derive(Drop)]
+#[derive(Clone, Copy)]
 pub struct CodedResult {
     pub machine: ModalMachine,
     pub answer: u64,
 }
 
 // The map after a call, and its answer's number.
-#[derive(Drop)]
+#[derive(Clone, Copy)]
 pub struct CodedMap {
     pub map: Map,
     pub answer: u64,
 }
 
 // The live state after a call, and its answer's number.
-#[derive(Drop)]
+#[derive(Clone, Copy)]
 pub struct CodedLive {
     pub live: Live,
     pub answer: u64,

@@ -1,5 +1,7 @@
 // The one library for C: thin functions over a machine that is lent by reference, and those of them that C calls, with the
 // run beside them.
+#![tactic(auto)]
+
 pub mod coded;
 mod codes;
 pub mod firmware;

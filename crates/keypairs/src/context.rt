@@ -7,21 +7,21 @@ ghost use Rattle.keypairs.specs.View.{context_of, chosen_of};
 use keyvalues::event::EdgeEvent;
 
 #[repr(C)]
-#[derive(Drop)]
+#[derive(Clone, Copy)]
 pub struct Context {
     pub count: u16,
     pub mark: u16,
 }
 
 // What `take` leaves, and what it took.
-#[derive(Drop)]
+#[derive(Clone, Copy)]
 pub struct TakeResult {
     pub context: Context,
     pub answer: Context,
 }
 
 // A context that overrides another, perhaps.
-#[derive(Drop)]
+#[derive(Clone, Copy)]
 pub enum Override {
     Nothing,
     By(Context),

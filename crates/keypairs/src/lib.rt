@@ -4,6 +4,8 @@
 //
 // The queue and the sequences are arrays of words that are lent to the functions below and changed in place. Of a key graph
 // its parts are read and nothing is added, so the crate stands on those alone.
+#![tactic(auto)]
+
 pub mod context;
 pub mod mode;
 pub mod pair;

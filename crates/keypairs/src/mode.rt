@@ -20,7 +20,7 @@ use keyvalues::tables::TableWords;
 use keyvalues::{node, number};
 
 // The number of a refusal, or 0 and the state that was come to.
-#[derive(Drop)]
+#[derive(Clone, Copy)]
 pub struct GotoResult {
     pub refusal: u16,
     pub state: State,

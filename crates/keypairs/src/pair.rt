@@ -7,7 +7,7 @@ ghost use Rattle.keypairs.specs.View.{pair_by, pair_of, over_of};
 use crate::context::{Context, Override};
 use keyvalues::number;
 
-#[derive(Drop)]
+#[derive(Clone, Copy)]
 pub struct Pair {
     pub action: u16,
     pub context: Context,

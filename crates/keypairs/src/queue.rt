@@ -16,7 +16,7 @@ use keyvalues::step::Step;
 use keyvalues::tables::TableWords;
 
 // The number of a refusal, or 0 and how many pairs wait then.
-#[derive(Drop)]
+#[derive(Clone, Copy)]
 pub struct PushResult {
     pub refusal: u16,
     pub queued: u16,

@@ -10,7 +10,7 @@ use keyvalues::step::Maybe;
 
 // The place is a node; `queued` words of the queue are waiting pairs, and `trailed` keys are on the trail.
 #[repr(C)]
-#[derive(Drop)]
+#[derive(Clone, Copy)]
 pub struct State {
     pub place: u16,
     pub mode: u16,

@@ -12,7 +12,7 @@ use crate::pair::Pair;
 use keytables::rule::Rule;
 use keyvalues::answer::Answer;
 
-#[derive(Drop)]
+#[derive(Clone, Copy)]
 pub enum Status {
     Atom,
     Break,
@@ -180,19 +180,19 @@ pub fn fetch_at(sequences: &mut [u64; SequenceTracker::ALL], sequence: u16, over
 }
 
 // A sequence by value, over the same functions.
-#[derive(Drop)]
+#[derive(Clone, Copy)]
 pub struct SequenceTracker {
     pub words: [u64; SequenceTracker::WORDS],
 }
 
-#[derive(Drop)]
+#[derive(Clone, Copy)]
 pub struct TrackResult {
     pub tracker: SequenceTracker,
     pub answer: Answer,
 }
 
 // The sequence with its pairs overridden, and how many they are.
-#[derive(Drop)]
+#[derive(Clone, Copy)]
 pub struct FetchResult {
     pub tracker: SequenceTracker,
     pub answer: u16,

@@ -9,7 +9,7 @@ use crate::graph::Graph;
 use keyvalues::tables::TableWords;
 use keyvalues::{node, number};
 
-#[derive(Drop)]
+#[derive(Clone, Copy)]
 pub enum Found {
     Refused(u16),
     At(u16),

@@ -10,7 +10,7 @@ use keyvalues::event::EdgeEvent;
 use keyvalues::step::Maybe;
 use keyvalues::{class, event, number};
 
-#[derive(Drop)]
+#[derive(Clone, Copy)]
 pub enum FollowResult {
     Successor(EdgeEvent, u16),
     Fallthrough(u16),

@@ -11,14 +11,14 @@ use keyvalues::tables::TableWords;
 
 // How many words of the nodes and of the edges count.
 #[repr(C)]
-#[derive(Drop)]
+#[derive(Clone, Copy)]
 pub struct Counts {
     pub nodes: u16,
     pub edges: u16,
 }
 
 #[repr(C)]
-#[derive(Drop)]
+#[derive(Clone, Copy)]
 pub struct Graph {
     pub words: [u64; Graph::WORDS],
     pub counts: Counts,

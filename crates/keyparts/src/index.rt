@@ -10,7 +10,7 @@ use crate::graph::Graph;
 use keyvalues::number;
 use keyvalues::step::Maybe;
 
-#[derive(Drop)]
+#[derive(Clone, Copy)]
 pub struct Index {
     pub links: [u16; Index::LINKS],
 }

@@ -3,6 +3,8 @@
 //
 // The functions that are called for every key are lent a graph's words and the tables' and copy nothing. What a graph and the
 // tables are made of stands in the crate below.
+#![tactic(auto)]
+
 mod edge;
 pub mod find;
 pub mod follow;

@@ -1,4 +1,6 @@
 // Plays the input of standard input: the map's length, the map, then keys.
+#![tactic(auto)]
+
 use libc::STDIN_FILENO;
 
 fn main() {

@@ -7,7 +7,7 @@ use keyvalues::number;
 use keyvalues::tables::TableWords;
 
 // The rule tells what the actions from `low` to `high` do to a sequence, in one mode.
-#[derive(Drop)]
+#[derive(Clone, Copy)]
 pub struct Rule {
     pub mode: u16,
     pub low: u16,

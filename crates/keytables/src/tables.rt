@@ -12,7 +12,7 @@ use keyvalues::step::{Maybe, Step};
 use keyvalues::tables::{Sizes, TableWords};
 use keyvalues::{class, node, number, step};
 
-#[derive(Drop)]
+#[derive(Clone, Copy)]
 pub struct ClassEntry {
     pub class: u16,
     pub low: u16,
@@ -20,14 +20,14 @@ pub struct ClassEntry {
 }
 
 // The first `count` actions are the list. A count over 4 is a list that every call refuses.
-#[derive(Drop)]
+#[derive(Clone, Copy)]
 pub struct Actions {
     pub items: [u16; Step::ACTIONS as usize],
     pub count: u16,
 }
 
 // What entering the mode gives, what a key with no binding gives, and which mode such a key leads to.
-#[derive(Drop)]
+#[derive(Clone, Copy)]
 pub struct ModeEntry {
     pub enter: Actions,
     pub unmapped: Actions,
@@ -35,7 +35,7 @@ pub struct ModeEntry {
 }
 
 // The sizes tell how many entries of each count. More than the arrays hold are tables that open refuses.
-#[derive(Drop)]
+#[derive(Clone, Copy)]
 pub struct Tables {
     pub classes: [ClassEntry; TableWords::CLASSES as usize],
     pub modes: [ModeEntry; TableWords::MODES as usize],
@@ -44,32 +44,32 @@ pub struct Tables {
 }
 
 // Were the entries in range? If so, the words are theirs.
-#[derive(Drop)]
+#[derive(Clone, Copy)]
 struct PackedClasses {
     pub valid: bool,
     pub words: [u64; TableWords::CLASSES as usize],
 }
 
-#[derive(Drop)]
+#[derive(Clone, Copy)]
 struct PackedModes {
     pub valid: bool,
     pub words: [u64; TableWords::MODE_WORDS],
 }
 
-#[derive(Drop)]
+#[derive(Clone, Copy)]
 struct PackedRules {
     pub valid: bool,
     pub words: [u64; TableWords::RULES as usize],
 }
 
-#[derive(Drop)]
+#[derive(Clone, Copy)]
 pub struct PackResult {
     pub valid: bool,
     pub words: TableWords,
 }
 
 // A mode's three words.
-#[derive(Drop)]
+#[derive(Clone, Copy)]
 struct EntryWords {
     pub enter: u64,
     pub unmapped: u64,

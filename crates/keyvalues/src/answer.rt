@@ -1,5 +1,5 @@
 // What a call comes to.
-#[derive(Drop)]
+#[derive(Clone, Copy)]
 pub enum Answer {
     Accepted,
     // The number of the refusal.

@@ -3,7 +3,7 @@ ghost use Rattle.std.specs.Prelude.{◌≡◌};
 ghost use Rattle.rules.specs.Values as v;
 ghost use Rattle.keyvalues.specs.View.{event_of, event_at, repeat_of};
 
-#[derive(Drop)]
+#[derive(Clone, Copy)]
 pub enum EdgeEvent {
     Key(u16),
     Class(u16),
@@ -11,7 +11,7 @@ pub enum EdgeEvent {
     Fallthrough,
 }
 
-#[derive(Drop)]
+#[derive(Clone, Copy)]
 pub enum EdgeRepeat {
     Once,
     Min(u16),

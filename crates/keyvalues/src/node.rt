@@ -9,14 +9,14 @@ use crate::number;
 use crate::step::{Maybe, Step};
 
 // What a node does. The step of `Step` stands beside it in the node, since an enum here holds no array.
-#[derive(Drop)]
+#[derive(Clone, Copy)]
 pub enum NodeAction {
     Empty,
     Root,
     Step,
 }
 
-#[derive(Drop)]
+#[derive(Clone, Copy)]
 pub struct Node {
     pub mode: u16,
     pub action: NodeAction,
@@ -24,7 +24,7 @@ pub struct Node {
 }
 
 // A node's two words. Any two words are some node's.
-#[derive(Drop)]
+#[derive(Clone, Copy)]
 pub struct NodeWords {
     pub head: u64,
     pub acts: u64,

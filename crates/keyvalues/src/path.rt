@@ -7,14 +7,14 @@ ghost use Rattle.keyvalues.specs.View.{part_of, path_of, whole_path};
 use crate::event::{EdgeEvent, EdgeRepeat};
 use crate::number;
 
-#[derive(Drop)]
+#[derive(Clone, Copy)]
 pub struct EdgePathPart {
     pub repeat: EdgeRepeat,
     pub event: EdgeEvent,
 }
 
 // The first `count` parts are the path. A count over 32 is a path that every call refuses.
-#[derive(Drop)]
+#[derive(Clone, Copy)]
 pub struct EdgePath {
     pub parts: [EdgePathPart; EdgePath::PARTS as usize],
     pub count: u16,

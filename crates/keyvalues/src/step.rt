@@ -8,14 +8,14 @@ use crate::number;
 use crate::tables::TableWords;
 
 // A number that may be missing.
-#[derive(Drop)]
+#[derive(Clone, Copy)]
 pub enum Maybe {
     Nothing,
     Just(u16),
 }
 
 // The first `count` actions are the step's. A count over 4 is a step that every call refuses.
-#[derive(Drop)]
+#[derive(Clone, Copy)]
 pub struct Step {
     pub unmapped: bool,
     pub actions: [u16; Step::ACTIONS as usize],

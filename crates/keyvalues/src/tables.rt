@@ -6,7 +6,7 @@ ghost use Rattle.keyvalues.specs.View.{sizes_in, class_words, mode_words, rule_w
 use crate::copy;
 
 // How many words of the class table, how many entries of the mode table and how many rules count.
-#[derive(Drop)]
+#[derive(Clone, Copy)]
 pub struct Sizes {
     pub classes: u16,
     pub modes: u16,
@@ -14,7 +14,7 @@ pub struct Sizes {
 }
 
 #[repr(C)]
-#[derive(Drop)]
+#[derive(Clone, Copy)]
 pub struct TableWords {
     pub words: [u64; TableWords::WORDS],
 }

@@ -15,7 +15,7 @@ use mapparts::binding;
 use mapparts::place::FilePlace;
 
 // What the bindings so far leave beside the words, and the place after them.
-#[derive(Drop)]
+#[derive(Clone, Copy)]
 pub struct BoundRead {
     pub counts: Counts,
     pub kept: u16,

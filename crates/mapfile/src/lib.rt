@@ -1,5 +1,7 @@
 // Map files and the run on them: bindings are added as they are read, keys are played on the map, and the
 // pairs are written. What a file's parts are read with stands in the crate below, whose numbers are handed on from here.
+#![tactic(auto)]
+
 mod bind;
 pub mod map;
 mod pairs;

@@ -17,7 +17,7 @@ use mapparts::place::FilePlace;
 use mapparts::tables;
 
 // Refused, there is no binding and no table in the map.
-#[derive(Drop)]
+#[derive(Clone, Copy)]
 pub struct MapRead {
     pub map: Map,
     pub answer: Answer,

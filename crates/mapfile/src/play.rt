@@ -26,7 +26,7 @@ use mapparts::number::Read;
 use mapparts::{keys, number};
 
 // How many bytes were written, or the number of the refusal.
-#[derive(Drop)]
+#[derive(Clone, Copy)]
 pub enum RunResult {
     Wrote(usize),
     Refused(u16),

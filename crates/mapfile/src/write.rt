@@ -54,7 +54,7 @@ pub fn clear_all(out: &mut [u8])
 
 // Where the next number goes, and whether one did not fit. From then on nothing more is written, so that whoever writes
 // many numbers asks only once.
-#[derive(Drop)]
+#[derive(Clone, Copy)]
 pub struct Pen {
     pub at: usize,
     pub full: bool,

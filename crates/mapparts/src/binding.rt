@@ -9,7 +9,7 @@ use keptcalls::call::BindingCall;
 use keyvalues::step::Step;
 use keyvalues::tables::TableWords;
 
-#[derive(Drop)]
+#[derive(Clone, Copy)]
 pub struct BindingRead {
     pub call: BindingCall,
     pub place: FilePlace,

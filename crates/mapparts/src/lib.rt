@@ -3,6 +3,8 @@
 // that is public asks anything of its arguments.
 //
 // A part is read at a place that carries the refusal met on the way, so parts are read in a row with no test between them.
+#![tactic(auto)]
+
 pub mod binding;
 pub mod keys;
 mod list;

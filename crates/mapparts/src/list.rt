@@ -10,14 +10,14 @@ use keyvalues::step::{Maybe, Step};
 use keyvalues::tables::TableWords;
 
 // The first `count` actions are the list.
-#[derive(Drop)]
+#[derive(Clone, Copy)]
 pub struct ActionsRead {
     pub actions: [u16; Step::ACTIONS as usize],
     pub count: u16,
     pub place: FilePlace,
 }
 
-#[derive(Drop)]
+#[derive(Clone, Copy)]
 pub struct MaybeRead {
     pub value: Maybe,
     pub place: FilePlace,

@@ -4,7 +4,7 @@ ghost use Rattle.rules.specs.Numbers.{number};
 ghost use Rattle.mapparts.specs.View.{read_of};
 
 // What stands at a place of the bytes: a number and the place after it, or no number, which is refusal 9.
-#[derive(Drop)]
+#[derive(Clone, Copy)]
 pub enum Read {
     Number { value: u16, next: usize },
     Bad,

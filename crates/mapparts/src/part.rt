@@ -8,25 +8,25 @@ use crate::place::FilePlace;
 use keyvalues::event::{EdgeEvent, EdgeRepeat};
 use keyvalues::path::{EdgePath, EdgePathPart};
 
-#[derive(Drop)]
+#[derive(Clone, Copy)]
 struct RepeatRead {
     pub repeat: EdgeRepeat,
     pub place: FilePlace,
 }
 
-#[derive(Drop)]
+#[derive(Clone, Copy)]
 struct EventRead {
     pub event: EdgeEvent,
     pub place: FilePlace,
 }
 
-#[derive(Drop)]
+#[derive(Clone, Copy)]
 struct PartRead {
     pub part: EdgePathPart,
     pub place: FilePlace,
 }
 
-#[derive(Drop)]
+#[derive(Clone, Copy)]
 pub struct PathRead {
     pub path: EdgePath,
     pub place: FilePlace,

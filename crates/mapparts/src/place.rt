@@ -11,14 +11,14 @@ use crate::number;
 use crate::number::Read;
 
 // The next byte is the one at `at`. The refusal is 0 where there is none.
-#[derive(Drop)]
+#[derive(Clone, Copy)]
 pub struct FilePlace {
     pub at: usize,
     pub refusal: u16,
 }
 
 // A number, and the place after it. Refused, the number is 0.
-#[derive(Drop)]
+#[derive(Clone, Copy)]
 pub struct NumberRead {
     pub value: u16,
     pub place: FilePlace,

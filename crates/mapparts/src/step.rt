@@ -7,7 +7,7 @@ use crate::list;
 use crate::place::FilePlace;
 use keyvalues::step::Step;
 
-#[derive(Drop)]
+#[derive(Clone, Copy)]
 pub struct StepRead {
     pub step: Step,
     pub place: FilePlace,

@@ -14,14 +14,14 @@ use keyvalues::tables::{Sizes, TableWords};
 use keyvalues::{class, number};
 
 // The word of one class or of one rule.
-#[derive(Drop)]
+#[derive(Clone, Copy)]
 struct WordRead {
     pub word: u64,
     pub place: FilePlace,
 }
 
 // A mode's three words.
-#[derive(Drop)]
+#[derive(Clone, Copy)]
 struct ModeRead {
     pub enter: u64,
     pub unmapped: u64,
@@ -29,28 +29,28 @@ struct ModeRead {
     pub place: FilePlace,
 }
 
-#[derive(Drop)]
+#[derive(Clone, Copy)]
 struct ClassesRead {
     pub words: [u64; TableWords::CLASSES as usize],
     pub count: u16,
     pub place: FilePlace,
 }
 
-#[derive(Drop)]
+#[derive(Clone, Copy)]
 struct ModesRead {
     pub words: [u64; TableWords::MODE_WORDS],
     pub count: u16,
     pub place: FilePlace,
 }
 
-#[derive(Drop)]
+#[derive(Clone, Copy)]
 struct RulesRead {
     pub words: [u64; TableWords::RULES as usize],
     pub count: u16,
     pub place: FilePlace,
 }
 
-#[derive(Drop)]
+#[derive(Clone, Copy)]
 pub struct TablesRead {
     pub tables: TableWords,
     pub place: FilePlace,

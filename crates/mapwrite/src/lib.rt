@@ -1,4 +1,6 @@
 // Writing a map file: the numbers of the tables and of the kept binding calls, in one pass from their words to the output.
+#![tactic(auto)]
+
 mod actions;
 mod calls;
 pub mod map;

@@ -1,4 +1,6 @@
 // What the program `keyplay` writes of an input: a proved function makes the text in lent bytes, and it is written at once.
+#![tactic(auto)]
+
 mod lines;
 mod put;
 mod text;

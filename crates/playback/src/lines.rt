@@ -7,14 +7,14 @@ ghost use Rattle.playback.specs.View.{Put, Finds, Lines};
 use crate::put;
 
 // A number, and the place after it.
-#[derive(Drop)]
+#[derive(Clone, Copy)]
 struct Found {
     value: u32,
     next: usize,
 }
 
 // The places after a pair: in the text, and in the bytes of the pairs.
-#[derive(Drop)]
+#[derive(Clone, Copy)]
 struct Line {
     at: usize,
     from: usize,

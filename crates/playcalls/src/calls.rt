@@ -12,13 +12,13 @@ use keymachine::machine::ModalMachine;
 use mapparts::place::FilePlace;
 
 // The machine, and the place after the call.
-#[derive(Drop)]
+#[derive(Clone, Copy)]
 struct Played {
     machine: ModalMachine,
     place: FilePlace,
 }
 
-#[derive(Drop)]
+#[derive(Clone, Copy)]
 struct OverRead {
     over: Override,
     place: FilePlace,

@@ -1,5 +1,7 @@
 // Plays a list of calls and prints the answers. An input is numbers as in a map file: the three tables, and then calls to
 // the end. No range is tested here: the numbers go to the calls as they are.
+#![tactic(auto)]
+
 mod calls;
 mod file;
 mod parts;

@@ -6,35 +6,35 @@ use keygraph::path::{EdgePath, EdgePathPart};
 use keygraph::step::{Maybe, Step};
 use mapparts::place::FilePlace;
 
-#[derive(Drop)]
+#[derive(Clone, Copy)]
 struct RepeatRead {
     repeat: EdgeRepeat,
     known: bool,
     place: FilePlace,
 }
 
-#[derive(Drop)]
+#[derive(Clone, Copy)]
 struct EventRead {
     event: EdgeEvent,
     known: bool,
     place: FilePlace,
 }
 
-#[derive(Drop)]
+#[derive(Clone, Copy)]
 struct PartRead {
     part: EdgePathPart,
     known: bool,
     place: FilePlace,
 }
 
-#[derive(Drop)]
+#[derive(Clone, Copy)]
 pub struct PathRead {
     pub path: EdgePath,
     pub known: bool,
     pub place: FilePlace,
 }
 
-#[derive(Drop)]
+#[derive(Clone, Copy)]
 pub struct StepRead {
     pub step: Step,
     pub known: bool,

@@ -6,31 +6,31 @@ use keymachine::rule::Rule;
 use keymachine::tables::{Actions, ClassEntry, ModeEntry, Tables};
 use mapparts::place::FilePlace;
 
-#[derive(Drop)]
+#[derive(Clone, Copy)]
 pub struct ActionsRead {
     pub actions: Actions,
     pub place: FilePlace,
 }
 
-#[derive(Drop)]
+#[derive(Clone, Copy)]
 pub struct MaybeRead {
     pub value: Maybe,
     pub place: FilePlace,
 }
 
-#[derive(Drop)]
+#[derive(Clone, Copy)]
 struct ModeRead {
     entry: ModeEntry,
     place: FilePlace,
 }
 
-#[derive(Drop)]
+#[derive(Clone, Copy)]
 struct RuleRead {
     rule: Rule,
     place: FilePlace,
 }
 
-#[derive(Drop)]
+#[derive(Clone, Copy)]
 pub struct TablesRead {
     pub tables: Tables,
     pub place: FilePlace,

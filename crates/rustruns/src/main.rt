@@ -1,5 +1,7 @@
 // Plays recorded inputs of `keyplay`, framed in one standard input. `compare/record` wrote `stdin`, and `stdout` from the
 // answers of the Rust original; a refusal that it does not have is that of a model of it.
+#![tactic(auto)]
+
 use framed::Player;
 use libc::STDIN_FILENO;
 
