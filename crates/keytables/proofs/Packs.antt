@@ -1,5 +1,5 @@
 -- Tables that a caller hands over: their words, their ranges, and the loops that test an entry and pack it.
-use Prim.Native.Nat.{ℕ, ◌+◌, ◌-◌, ◌*◌, ◌/◌, ◌%◌, ◌≤◌, ◌<◌}
+use Prim.Native.Nat.{ℕ, ◌+◌, ◌*◌, ◌/◌, ◌%◌, ◌≤◌, ◌<◌}
 use mathlib.Core.Path.{◌≡◌, refl, sym, ap, ◌∙◌}
 use mathlib.Core.Bool.{Bool, true, false}
 use mathlib.Core.List.{List, [], ◌∷◌, map, map-append}
@@ -11,7 +11,7 @@ use lib.Dec.{leb}
 use borrow.Author.Tests.{ltb-true, leb-true, le-leb, lt-leb}
 use Rattle.rules.specs.Basics.{every, accept, unless}
 use Rattle.rules.specs.Values.{is_mode, is_sequence}
-use Rattle.rules.specs.Tables.{ModeEntry, Rule, Tables, class_valid, mode_valid, rule_valid, tables_valid, no_entry}
+use Rattle.rules.specs.Tables.{Tables, class_valid, mode_valid, rule_valid, tables_valid, no_entry}
 use Rattle.rules.proofs.Tests.{and_l, and_r}
 use Rattle.keyvalues.specs.View.{four_of, opt_of, maybe_of, fit, classes_of, sizes_in, class_words, mode_words, rule_words}
 use Rattle.keyvalues.specs.declared.tables.Sizes.{Sizes}
