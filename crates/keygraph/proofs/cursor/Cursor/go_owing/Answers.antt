@@ -1,0 +1,12 @@
+-- The words and the counts stay, and the node and what is owed are those given.
+use mathlib.Core.Path.{refl}
+use Rattle.rules.specs.Graph.{cursor}
+use Rattle.keyparts.specs.View.{graph_in}
+use Rattle.keygraph.specs.Making.{came_to, cursor_in}
+use Rattle.keygraph.proofs.Cursors.{alters}
+use Rattle.keygraph.proofs.cursor.Cursor.go_owing.Goals as goal
+
+pub returns : goal.returns
+unfolding came_to
+returns c = let a = c.args in let s = a.self in
+    record { by_index = (λ ws. alters s.refusal (cursor_in ws s) (cursor (graph_in ws s.counts) a.node a.owed) refl); counts_value = refl }
