@@ -7,7 +7,7 @@ use native.Mathlib.Numerals.{add-one}
 use lib.ListN.{length, take, drop, set, get_or, length-take, drop_of_length-le}
 use lib.Seq.{drop-cons, get_or-take}
 use borrow.Author.Tests.{lt-ltb, le-ltb}
-use Rattle.rules.specs.Basics.{accept, refuse, ◌>>=◌}
+use Rattle.rules.specs.Basics.{accept, refuse}
 use Rattle.rules.specs.Values.{Pair, Context}
 use Rattle.rules.specs.Tables.{Tables}
 use Rattle.rules.specs.KeyLoop.{Tracker, Shared, apply_rules, push, push_all}

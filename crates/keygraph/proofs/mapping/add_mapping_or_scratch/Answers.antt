@@ -13,8 +13,11 @@ use Rattle.keygraph.proofs.mapping.add_mapping_or_scratch.Goals as goal
 pub returns-then-valid-2 : goal.returns-then-valid-2
 unfolding add_mapping
 returns-then-valid-2 c = let a = c.args in let p = a.path in let s = a.step in let ep : length c.args.path.parts ≡ 32 = search (rules, length-mapped) in let es : length c.args.step.actions ≡ 4 = search rules in
-    record { words_len = c.map_path.ensures.words_len_2; counts_after = map_good a.mode p s (graph_in a.words.now a.counts) _ ep es c.if-mode-lt-MODES.true (sym c.if-valid.true ∙ c.valid.ensures) (sym c.if-valid-2.true ∙ c.valid-then-valid.ensures)
-      (c.placed.ensures _ ∙ call_done a.words.now a.counts a.mode (map_path a.mode (path_of p) (step_of s)) _ c.start-c.ensures c.map_path.ensures.leads) }
+    record {
+      words_len = c.map_path.ensures.words_len_2;
+      counts_after = map_good a.mode p s (graph_in a.words.now a.counts) _ ep es c.if-mode-lt-MODES.true (sym c.if-valid.true ∙ c.valid.ensures) (sym c.if-valid-2.true ∙ c.valid-then-valid.ensures)
+          (c.placed.ensures _ ∙ call_done a.words.now a.counts a.mode (map_path a.mode (path_of p) (step_of s)) _ c.start-c.ensures c.map_path.ensures.leads);
+    }
 
 pub returns-else-valid-2 : goal.returns-else-valid-2
 returns-else-valid-2 c = let a = c.args in let s = a.step in

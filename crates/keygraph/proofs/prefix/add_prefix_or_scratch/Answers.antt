@@ -14,8 +14,11 @@ use Rattle.keygraph.proofs.prefix.add_prefix_or_scratch.Goals as goal
 pub returns-then-prefix_step_valid : goal.returns-then-prefix_step_valid
 unfolding add_prefix
 returns-then-prefix_step_valid c = let a = c.args in let p = a.path in let s = a.step in let ep : length c.args.path.parts ≡ 32 = search (rules, length-mapped) in let es : length c.args.step.actions ≡ 4 = search rules in
-    record { words_len = c.prefix_path.ensures.words_len_2; counts_after = prefix_good a.mode p s (graph_in a.words.now a.counts) _ ep es c.if-mode-lt-MODES.true (sym c.if-valid.true ∙ c.valid.ensures) a.chosen (sym c.if-prefix_step_valid.true ∙ c.prefix_step_valid.ensures)
-      (c.placed.ensures _ ∙ call_done a.words.now a.counts a.mode (prefix_path a.mode true (path_of p) (chosen_of a.chosen (step_of s))) _ c.start-c.ensures c.prefix_path.ensures.leads) }
+    record {
+      words_len = c.prefix_path.ensures.words_len_2;
+      counts_after = prefix_good a.mode p s (graph_in a.words.now a.counts) _ ep es c.if-mode-lt-MODES.true (sym c.if-valid.true ∙ c.valid.ensures) a.chosen (sym c.if-prefix_step_valid.true ∙ c.prefix_step_valid.ensures)
+          (c.placed.ensures _ ∙ call_done a.words.now a.counts a.mode (prefix_path a.mode true (path_of p) (chosen_of a.chosen (step_of s))) _ c.start-c.ensures c.prefix_path.ensures.leads);
+    }
 
 pub returns-else-prefix_step_valid : goal.returns-else-prefix_step_valid
 returns-else-prefix_step_valid c = let a = c.args in let s = a.step in

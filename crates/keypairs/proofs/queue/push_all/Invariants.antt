@@ -1,15 +1,11 @@
 use Prim.Native.Nat.{ℕ, ◌-◌}
-use mathlib.Core.Path.{◌≡◌, refl, sym, ◌∙◌}
+use mathlib.Core.Path.{◌≡◌}
 use mathlib.Core.List.{List}
 use lib.ListN.{length, drop}
-use borrow.Author.Rules.{rules}
 use Rattle.rules.specs.Values.{Context}
-use Rattle.keyvalues.specs.View.{outcome}
 use Rattle.rules.specs.KeyLoop.{push_all}
 use Rattle.keytables.specs.View.{actions_by, tables_in}
 use Rattle.keypairs.specs.View.{context_of, pairs_of, trackers_of, shared}
-use Rattle.keypairs.proofs.Lists.{outcome_ok, outcome_no}
-use Rattle.keypairs.proofs.Pushes.{all_on, all_stop, all_end}
 use Rattle.keypairs.proofs.queue.push_all.Given as goal
 
 abbrev pub invariant-loop-i : goal.invariant-loop-i

@@ -1,15 +1,10 @@
-use Prim.Native.Nat.{◌<◌, ◌-◌, min}
-use mathlib.Core.Path.{◌≡◌, refl, sym, ap, ◌∙◌}
-use native.Mathlib.Omega.{arith}
+use Prim.Native.Nat.{◌-◌}
+use mathlib.Core.Path.{◌≡◌}
 use lib.ListN.{length, drop}
-use borrow.Author.Rules.{rules}
-use Rattle.rules.specs.Tables.{Rule}
-use Rattle.rules.specs.KeyLoop.{apply_rule, apply_rules}
-use Rattle.keyvalues.specs.View.{outcome, sizes_in, rule_words}
-use Rattle.keytables.specs.View.{rule_of, rules_of, tables_in}
+use Rattle.rules.specs.KeyLoop.{apply_rules}
+use Rattle.keyvalues.specs.View.{sizes_in, rule_words}
+use Rattle.keytables.specs.View.{rules_of}
 use Rattle.keypairs.specs.View.{pair_of, trackers_of}
-use Rattle.keypairs.proofs.Lists.{outcome_ok, outcome_no}
-use Rattle.keypairs.proofs.Sequences.{rules_on, rules_stop, rules_end, rules_word, rules_long}
 use Rattle.keypairs.proofs.rule.apply_rules.Given as goal
 
 abbrev pub invariant-loop-i : goal.invariant-loop-i

@@ -1,12 +1,10 @@
 -- What the cursor comes to by the parts that are left is what the first one comes to by all of them.
-use Prim.Native.Nat.{◌≤◌, ◌-◌, min}
+use Prim.Native.Nat.{min}
 use mathlib.Core.Path.{◌≡◌, refl, sym, ◌∙◌}
-use mathlib.Core.List.{map}
 use native.Mathlib.Omega.{arith}
-use lib.ListN.{length, take, drop}
-use Rattle.rules.specs.Basics.{◌>>=◌}
+use lib.ListN.{length}
 use Rattle.keyvalues.specs.View.{part_of}
-use Rattle.keygraph.specs.Making.{came_to, add_parts}
+use Rattle.keygraph.specs.Making.{came_to}
 use Rattle.keyvalues.proofs.Lists.{view_cons, view_nil}
 use Rattle.keyvalues.proofs.Ranges.{raw_part, length-mapped}
 use Rattle.keygraph.proofs.Cursors.{parts_more, parts_none}
@@ -24,8 +22,8 @@ add_intermediate-c-requires c = record { mode_bound = c.requires.mode_bound.0; w
 
 pub loop-i-preserved : goal.loop-i-preserved
 loop-i-preserved c = let a = c.args in let ps = a.path.parts in
-    (omega arith, c.add_intermediate-c.ensures.words_len_2, parts_more a.mode _ _ _ (view_cons part_of a.n ps raw_part c.loop-i.i a.n (let h : c.args.n ≡ min c.args.n (length c.args.path.parts) = omega (arith, parts-length c, c.requires.mode_bound.1) in h) (omega arith)) (rw c.part_at-p.ensures at c.add_intermediate-c.ensures.leads) ∙ c.loop-i.invariant.2)
+    (omega arith, c.add_intermediate-c.ensures.words_len_2, parts_more a.mode _ _ _ (view_cons part_of a.n ps raw_part c.loop-i.i a.n (let h : c.args.n ≡ min c.args.n (length c.args.path.parts) = omega (arith, (let h : length c.args.path.parts ≡ 32 = search (rules, length-mapped) in h), c.requires.mode_bound.1) in h) (omega arith)) (rw c.part_at-p.ensures at c.add_intermediate-c.ensures.leads) ∙ c.loop-i.invariant.2)
 
 pub returns : goal.returns
 returns c = let a = c.args in let ps = a.path.parts in
-    record { words_len_2 = c.loop-i.invariant.1; leads = record { is = sym (parts_none a.mode (came_to c.loop-i.words c.loop-i.c) _ (view_nil part_of a.n ps raw_part c.loop-i.i a.n (let h : c.args.n ≡ min c.args.n (length c.args.path.parts) = omega (arith, parts-length c, c.requires.mode_bound.1) in h) (omega arith))) ∙ c.loop-i.invariant.2 } }
+    record { words_len_2 = c.loop-i.invariant.1; leads = record { is = sym (parts_none a.mode (came_to c.loop-i.words c.loop-i.c) _ (view_nil part_of a.n ps raw_part c.loop-i.i a.n (let h : c.args.n ≡ min c.args.n (length c.args.path.parts) = omega (arith, (let h : length c.args.path.parts ≡ 32 = search (rules, length-mapped) in h), c.requires.mode_bound.1) in h) (omega arith))) ∙ c.loop-i.invariant.2 } }

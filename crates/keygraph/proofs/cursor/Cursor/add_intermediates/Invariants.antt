@@ -1,15 +1,10 @@
-use Prim.Native.Nat.{◌≤◌, ◌-◌, min}
-use mathlib.Core.Path.{◌≡◌, refl, sym, ◌∙◌}
+use Prim.Native.Nat.{◌≤◌, ◌-◌}
+use mathlib.Core.Path.{◌≡◌}
 use mathlib.Core.List.{map}
-use native.Mathlib.Omega.{arith}
 use lib.ListN.{length, take, drop}
 use Rattle.rules.specs.Basics.{◌>>=◌}
 use Rattle.keyvalues.specs.View.{part_of}
 use Rattle.keygraph.specs.Making.{came_to, add_parts}
-use Rattle.keyvalues.proofs.Lists.{view_cons, view_nil}
-use Rattle.keyvalues.proofs.Ranges.{raw_part, length-mapped}
-use Rattle.keygraph.proofs.Cursors.{parts_more, parts_none}
-use borrow.Author.Rules.{rules}
 use Rattle.keygraph.proofs.cursor.Cursor.add_intermediates.Given as goal
 
 abbrev pub invariant-loop-i : goal.invariant-loop-i

@@ -17,5 +17,8 @@ edge_to-requires c = c.pay.ensures.words_len
 
 pub returns : goal.returns
 returns c = let a = c.args in
-    record { words_len = c.edge_to.ensures.words_len; leads = restates_in a.words.now a.self (add_simple_step (node_in a.p).mode (event_at a.code) (node_in a.p).action) (simple_parts (node_in a.p).mode (event_at a.code) (node_in a.p).action (cursor_in a.words.now a.self))
-      (with _ c.upsert_node-m.ensures.makes (then c.pay.ensures.leads (then c.edge_to.ensures.leads (c.go_owing.ensures.by_index _)))) }
+    record {
+      words_len = c.edge_to.ensures.words_len;
+      leads = restates_in a.words.now a.self (add_simple_step (node_in a.p).mode (event_at a.code) (node_in a.p).action) (simple_parts (node_in a.p).mode (event_at a.code) (node_in a.p).action (cursor_in a.words.now a.self))
+          (with _ c.upsert_node-m.ensures.makes (then c.pay.ensures.leads (then c.edge_to.ensures.leads (c.go_owing.ensures.by_index _))));
+    }

@@ -7,7 +7,6 @@ use Rattle.keyvalues.specs.View.{part_of, step_of}
 use Rattle.keyvalues.proofs.Lists.{view_nil}
 use Rattle.keyvalues.proofs.Ranges.{raw_part}
 use Rattle.keygraph.proofs.Cursors.{map_whole, map_none, view_last}
-use borrow.Author.Rules.{rules}
 use Rattle.keygraph.proofs.cursor.Cursor.map_path.Goals as goal
 
 pub returns-then-n-eq0 : goal.returns-then-n-eq0

@@ -11,7 +11,6 @@ use mathlib.Core.Bool.{true}
 use Rattle.keyvalues.specs.View.{chosen_of}
 use Rattle.keyvalues.proofs.Ranges.{view_count}
 use Rattle.keygraph.proofs.Cursors.{prefix_whole, prefix_none, view_last}
-use borrow.Author.Rules.{rules}
 use Rattle.keygraph.proofs.cursor.Cursor.prefix_path.Goals as goal
 
 pub returns-then-n-eq0 : goal.returns-then-n-eq0

@@ -19,6 +19,10 @@ edge_by-requires c = (c.pay_by.ensures.words_len, c.pay_by.ensures.indexed)
 
 pub returns : goal.returns
 returns c = let a = c.args in let p = c.requires in
-    record { words_len = c.edge_by.ensures.words_len; leads = restates_in a.words.now a.self (add_simple_step (node_in a.p).mode (event_at a.code) (node_in a.p).action) (simple_parts (node_in a.p).mode (event_at a.code) (node_in a.p).action (cursor_in a.words.now a.self))
-        (with _ (upserts_in a.words.now a.self (node_in a.p).mode (event_at a.code) (node_in a.p).action (maybe_of c.linked_edge-e.result) (λ ns. c.linked_edge-e.ensures ∙ end_in_lem a.words.now p.0 a.self a.links.now p.1 a.self.prev (event_at a.code) ns) c.upsert_at-m.ensures.makes)
-        (then c.pay_by.ensures.leads (then c.edge_by.ensures.leads (c.go_owing.ensures.by_index _)))); indexed = rw c.go_owing.ensures.counts_value c.edge_by.ensures.indexed }
+    record {
+      words_len = c.edge_by.ensures.words_len;
+      leads = restates_in a.words.now a.self (add_simple_step (node_in a.p).mode (event_at a.code) (node_in a.p).action) (simple_parts (node_in a.p).mode (event_at a.code) (node_in a.p).action (cursor_in a.words.now a.self))
+          (with _ (upserts_in a.words.now a.self (node_in a.p).mode (event_at a.code) (node_in a.p).action (maybe_of c.linked_edge-e.result) (λ ns. c.linked_edge-e.ensures ∙ end_in_lem a.words.now p.0 a.self a.links.now p.1 a.self.prev (event_at a.code) ns) c.upsert_at-m.ensures.makes)
+          (then c.pay_by.ensures.leads (then c.edge_by.ensures.leads (c.go_owing.ensures.by_index _))));
+      indexed = rw c.go_owing.ensures.counts_value c.edge_by.ensures.indexed;
+    }
