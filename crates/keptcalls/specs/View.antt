@@ -1,7 +1,7 @@
 -- What the words of kept calls mean, in the values of the rules. Any 18 words are some call: 16 with two parts each, one with
 -- the small numbers of the call and its step, one with the step's actions.
-use Rattle.std.specs.Prelude.{ℕ, ◌/◌, ◌%◌, ◌≡◌, List, [], ◌∷◌, map, eqb, take, get_or}
-use Rattle.rules.specs.Basics.{if◌then◌else◌, Result, ◌>>=◌, unless}
+use Rattle.std.specs.Prelude.{ℕ, ◌/◌, ◌%◌, ◌≡◌, List, [], ◌∷◌, map, eqb, take, get_or, if◌then◌else◌}
+use Rattle.rules.specs.Basics.{Result, ◌>>=◌, unless}
 use Rattle.rules.specs.Values as v
 use Rattle.rules.specs.Graph.{Graph, add_mapping, add_prefix}
 use Rattle.rules.specs.KeyLoop.{State}

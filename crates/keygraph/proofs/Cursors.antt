@@ -1,4 +1,5 @@
 -- Cursors: what one call comes to, in the words of the rules, and the loops of repeats.
+use Rattle.std.specs.Prelude.{if◌then◌else◌}
 use Prim.Native.Nat.{ℕ, zero, suc, ◌<◌, ◌≤◌, min}
 use mathlib.Core.Path.{◌≡◌, refl, sym, ap, ◌∙◌}
 use mathlib.Core.Bool.{Bool, true, false, ◌&&◌}
@@ -9,7 +10,7 @@ use lib.ListN.{length, take, get_or}
 use lib.Seq.{take-suc}
 use borrow.Author.Tests.{ne_eqb}
 use mathlib.Core.Option.{Option, none, some}
-use Rattle.rules.specs.Basics.{if◌then◌else◌, Result, accept, refuse, ◌>>=◌}
+use Rattle.rules.specs.Basics.{Result, accept, refuse, ◌>>=◌}
 use Rattle.rules.specs.Values.{Event, Fallthrough, Min, Max, Part, Step}
 use Rattle.rules.specs.Graph.{Graph, Node, Cursor, cursor, NodeAction, Empty, add_node, add_edge, upsert_node, upsert_at, get_edge, settle, edge_between, edge_to, node_for, add_simple_step, add_simples, add_optionals, add_min, add_max, add_repeat, add_intermediate, action_of, map_fall, map_path, prefix_last, prefix_path}
 use Rattle.keygraph.specs.Making.{Leads, Makes, came_to, cursor_in, edges_in, settled_at, upserted_at, upserted, paid, add_times, add_parts, min_to, min_on}

@@ -1,8 +1,8 @@
 -- What a chain of calls on a cursor comes to. Each call is one step of a chain of refusable steps, so that the chain of
 -- the code is the chain of the rules.
-use Rattle.std.specs.Prelude.{ℕ, zero, suc, ◌≡◌, List, [], ◌∷◌, take}
+use Rattle.std.specs.Prelude.{ℕ, zero, suc, ◌≡◌, List, [], ◌∷◌, take, if◌then◌else◌}
 use Rattle.std.proofs.Math.Option.{Option, none, some}
-use Rattle.rules.specs.Basics.{if◌then◌else◌, Result, accept, ◌>>=◌}
+use Rattle.rules.specs.Basics.{Result, accept, ◌>>=◌}
 use Rattle.rules.specs.Values as v
 use Rattle.rules.specs.Graph as g
 use Rattle.keygraph.specs.declared.cursor.Cursor.{Cursor}

@@ -4,7 +4,7 @@ ghost use Rattle.std.specs.Prelude.{◌≡◌, List, length};
 ghost use Rattle.rules.specs.Values.{Binding};
 ghost use Rattle.rules.specs.Tables.{Tables};
 ghost use Rattle.rules.specs.Graph.{Graph as Bindings};
-ghost use Rattle.rules.specs.Calls.{graph_kind, call, fresh, mode-call, Press, Pop, Repeats, Reset};
+ghost use Rattle.rules.specs.Calls.{graph_kind, call, fresh, mode_call, Press, Pop, Repeats, Reset};
 ghost use Rattle.keyvalues.specs.View.{answer_of};
 ghost use Rattle.keyparts.specs.View.{graph_in};
 ghost use Rattle.keytables.specs.View.{tables_in};
@@ -222,7 +222,7 @@ impl Live {
 
     // The entered mode.
     pub fn mode(self) -> u16
-        ensures { (g : Bindings) (ks : List Binding) (t : Tables) → result ≡ mode-call graph_kind (machine_by g ks t self) }
+        ensures { (g : Bindings) (ks : List Binding) (t : Tables) → result ≡ mode_call graph_kind (machine_by g ks t self) }
     {
         let s = self.state;
         s.mode

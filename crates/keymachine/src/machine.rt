@@ -2,7 +2,7 @@
 // hands back the machine before it. What a call does stands below, on the part that it changes.
 ghost use Rattle.std.specs.Prelude.{◌≡◌, List, ℕ};
 ghost use Rattle.rules.specs.Tables.{no_tables};
-ghost use Rattle.rules.specs.Calls.{graph_kind, call, fresh, mode-call, Open, Press, Pop, Repeats, Reset, HintFits, find};
+ghost use Rattle.rules.specs.Calls.{graph_kind, call, fresh, mode_call, Open, Press, Pop, Repeats, Reset, HintFits, find};
 ghost use Rattle.keyvalues.specs.View.{answer_of};
 ghost use Rattle.keyparts.specs.View.{found_of, graph_of};
 ghost use Rattle.keytables.specs.View.{whole_tables, tables_in};
@@ -169,7 +169,7 @@ impl ModalMachine {
 
     // The entered mode.
     pub fn mode(self) -> u16
-        ensures { (ws : List ℕ) → result ≡ mode-call graph_kind (machine_of ws self) }
+        ensures { (ws : List ℕ) → result ≡ mode_call graph_kind (machine_of ws self) }
     {
         let live = self.live;
         live.mode()

@@ -5,7 +5,7 @@ ghost use Rattle.rules.specs.Values.{Binding};
 ghost use Rattle.rules.specs.Tables.{Tables};
 ghost use Rattle.rules.specs.Graph.{Graph as Bindings};
 ghost use Rattle.rules.specs.KeyLoop.{State};
-ghost use Rattle.rules.specs.Calls.{graph_kind, call, mode-call, Press, Pop, Repeats, Reset, find};
+ghost use Rattle.rules.specs.Calls.{graph_kind, call, mode_call, Press, Pop, Repeats, Reset, find};
 ghost use Rattle.keyparts.specs.View.{graph_in, graph_of};
 ghost use Rattle.keytables.specs.View.{tables_in};
 ghost use Rattle.keymachine.specs.View.{machine_by, machine_of};
@@ -182,7 +182,7 @@ pub fn reset_mode(live: Live, tables: TableWords) -> CodedLive
 
 // The three that only look.
 pub fn mode(live: Live) -> u64
-    ensures { (g : Bindings) (ks : List Binding) (t : Tables) → result ≡ mode-call graph_kind (machine_by g ks t live) }
+    ensures { (g : Bindings) (ks : List Binding) (t : Tables) → result ≡ mode_call graph_kind (machine_by g ks t live) }
 {
     live.mode() as u64
 }

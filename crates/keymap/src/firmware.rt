@@ -2,9 +2,9 @@
 // stands in coded.rt on the parts, and stores the part that comes back.
 ghost use Rattle.std.specs.Prelude.{◌≡◌, length};
 ghost use Rattle.std.proofs.Math.Option.{none};
-ghost use Rattle.rules.specs.Calls.{graph_kind, call, mode-call, Press, Pop, Repeats, Reset, find};
+ghost use Rattle.rules.specs.Calls.{graph_kind, call, mode_call, Press, Pop, Repeats, Reset, find};
 ghost use Rattle.rules.specs.Run.{pair_bytes, run, answered};
-ghost use Rattle.rules.specs.Writing.{write-call};
+ghost use Rattle.rules.specs.Writing.{write_call};
 ghost use Rattle.keymachine.specs.View.{scanner_of};
 ghost use Rattle.keymap.specs.Codes.{coded, open_map, bind_map, repeat_over, find_code, Hints, scanner_bytes};
 
@@ -96,7 +96,7 @@ pub extern "C" fn keymap_reset(m: &mut Scanner) -> u64
 // The four that only look.
 #[unsafe(no_mangle)]
 pub extern "C" fn keymap_mode(m: &Scanner) -> u64
-    ensures { result ≡ mode-call graph_kind (scanner_of m.now) }
+    ensures { result ≡ mode_call graph_kind (scanner_of m.now) }
 {
     coded::mode((*m).machine.live)
 }
@@ -124,7 +124,7 @@ pub extern "C" fn keymap_free(m: &Scanner) -> u64
 // in front of the output and the rest of it stays; refused, all of it is zeros.
 #[unsafe(no_mangle)]
 pub extern "C" fn keymap_write(m: &Scanner, output: &mut [u8]) -> u64
-    ensures { (result, output.new) ≡ write-call graph_kind (scanner_of m.now) output.old }
+    ensures { (result, output.new) ≡ write_call graph_kind (scanner_of m.now) output.old }
 {
     map::write_map(
         &(*m).kept,

@@ -1,7 +1,7 @@
 // One scanner, lent to each call. Each function takes it apart by field, calls what works by value on the part that changes,
 // stores that part, and returns the answer. So a refused call leaves the machine as it was.
 ghost use Rattle.std.specs.Prelude.{◌≡◌};
-ghost use Rattle.rules.specs.Calls.{graph_kind, call, mode-call, Open, Map, Prefix, Press, Pop, Repeats, Reset, HintFits, find};
+ghost use Rattle.rules.specs.Calls.{graph_kind, call, mode_call, Open, Map, Prefix, Press, Pop, Repeats, Reset, HintFits, find};
 ghost use Rattle.keyvalues.specs.View.{whole_path, whole_step, chosen_of, answer_of};
 ghost use Rattle.keyparts.specs.View.{found_of};
 ghost use Rattle.keytables.specs.View.{whole_tables};
@@ -86,7 +86,7 @@ pub fn reset_mode(m: &mut Scanner) -> Answer
 
 // The three that only look.
 pub fn mode(m: &Scanner) -> u16
-    ensures { result ≡ mode-call graph_kind (scanner_of m.now) }
+    ensures { result ≡ mode_call graph_kind (scanner_of m.now) }
 {
     (*m).machine.live.mode()
 }

@@ -1,8 +1,8 @@
 -- What the words of pairs and sequences and the declared types mean, in the values of the rules. Every word decodes to something.
-use Rattle.std.specs.Prelude.{ℕ, ◌/◌, ◌%◌, true, List, map, eqb, length, take, drop, set, get_or}
+use Rattle.std.specs.Prelude.{ℕ, ◌/◌, ◌%◌, true, List, map, eqb, length, take, drop, set, get_or, if◌then◌else◌}
 use Rattle.std.proofs.Math.Option
 use Rattle.std.proofs.Math.Option.{Option, none, some}
-use Rattle.rules.specs.Basics.{if◌then◌else◌, Result, ◌>>=◌}
+use Rattle.rules.specs.Basics.{Result, ◌>>=◌}
 use Rattle.rules.specs.Values as v
 use Rattle.rules.specs.Tables as t
 use Rattle.rules.specs.KeyLoop as key

@@ -1,4 +1,5 @@
 -- Searches in words and among nodes, and what they say of edges and of find.
+use Rattle.std.specs.Prelude.{if◌then◌else◌}
 use Prim.Native.Nat.{ℕ, suc, ◌+◌, ◌*◌, ◌%◌, ◌<◌, ◌≤◌, min, zero-le}
 use mathlib.Core.Path.{◌≡◌, refl, sym, ap, ◌∙◌}
 use mathlib.Core.Bool.{Bool, true, false}
@@ -9,7 +10,7 @@ use native.Mathlib.Numerals.{add-one}
 use lib.ListN.{length, take, drop, set, get_or, length-take, length-map, drop_of_length-le}
 use lib.Seq.{drop-cons, get_or-take, take-set-lt, take-suc-set}
 use borrow.Author.Tests.{lt-ltb, le-ltb}
-use Rattle.rules.specs.Basics.{if◌then◌else◌, accept, refuse}
+use Rattle.rules.specs.Basics.{accept, refuse}
 use Rattle.rules.specs.Values.{Event, Class, Fallthrough}
 use Rattle.rules.specs.Tables.{ClassEntry, memberships, holds_key}
 use Rattle.rules.specs.Graph.{is_edge, Edge, end_in, replace_in, put_edge, add_edge, get_edge, Node, no_node, follow_first, or_else_by, lastly, class_events, Successor, FallsTo, NoSuccessor}

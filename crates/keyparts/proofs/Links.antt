@@ -2,6 +2,7 @@
 -- to what was the first before. No link led to its place, so the others lead where they led, and a search for its key goes along
 -- the chain that it is on. An index is made so from the last edge to the first; and an edge that goes behind the last one, with a
 -- key that none has, may be the first of its chain as well.
+use Rattle.std.specs.Prelude.{if◌then◌else◌}
 use Prim.Native.Nat.{ℕ, zero, suc, ◌+◌, ◌-◌, ◌*◌, ◌/◌, ◌%◌, ◌<◌, ◌≤◌, min}
 use mathlib.Core.Path.{◌≡◌, refl, sym, ap, ◌∙◌, subst}
 use mathlib.Core.Bool.{Bool, true, false}
@@ -12,7 +13,6 @@ use lib.Dec.{ltb, eqb}
 use lib.ListN.{length, take, drop, set, get_or, replicate, length-set, length-take, length-append, length-replicate, get_or-replicate, drop_of_length-le, get_or-append}
 use lib.Seq.{take_all, drop-cons, get_or-take, get_or-set_same, get_or-set_other, get_or-append_seam}
 use borrow.Author.Tests.{lt-ltb, le-ltb, eq-eqb, eqb-true, eqb-false, ltb-true, ltb-false}
-use Rattle.rules.specs.Basics.{if◌then◌else◌}
 use Rattle.rules.specs.Values.{Event}
 use Rattle.rules.specs.Tables.{ClassEntry}
 use Rattle.rules.specs.Graph.{is_edge, end_in, get_edge, follow_first, follow_edge, events_of, or_else_by, lastly, Node}

@@ -1,5 +1,6 @@
 -- The three parts of a graph's words: a word that goes into one leaves the others as they are, so the laws of edges and nodes hold
 -- of the whole.
+use Rattle.std.specs.Prelude.{if◌then◌else◌}
 use Prim.Native.Nat.{ℕ, ◌+◌, ◌*◌, ◌/◌, ◌%◌, ◌<◌, ◌≤◌, min}
 use mathlib.Core.Path.{◌≡◌, sym, ap, ◌∙◌, subst}
 use mathlib.Core.Bool.{Bool, true, false}
@@ -10,7 +11,7 @@ use lib.Dec.{ltb}
 use lib.ListN.{length, take, drop, set, get_or, length-take, length-drop}
 use lib.Seq.{set_out, take-set-lt, take-set-le, take-suc-set, drop-set-lt, drop-set-add}
 use borrow.Author.Tests.{lt-ltb, le-ltb, eqb-true}
-use Rattle.rules.specs.Basics.{if◌then◌else◌, accept, refuse}
+use Rattle.rules.specs.Basics.{accept, refuse}
 use Rattle.rules.specs.Graph.{Graph, add_edge, add_node, settle}
 use Rattle.keyparts.specs.declared.graph.Counts.{Counts}
 use Rattle.keyvalues.specs.declared.node.NodeWords.{NodeWords}

@@ -1,8 +1,8 @@
 -- What a graph's words and the declared types of this crate mean, in the values of the rules, and following by any links. Every
 -- word decodes to something, and any links lead somewhere.
-use Rattle.std.specs.Prelude.{ℕ, zero, suc, ◌+◌, ◌*◌, ◌/◌, ◌%◌, ◌<◌, ◌≤◌, ◌≡◌, Bool, List, [], ◌∷◌, map, ltb, eqb, length, take, drop, set, get_or}
+use Rattle.std.specs.Prelude.{ℕ, zero, suc, ◌+◌, ◌*◌, ◌/◌, ◌%◌, ◌<◌, ◌≤◌, ◌≡◌, Bool, List, [], ◌∷◌, map, ltb, eqb, length, take, drop, set, get_or, if◌then◌else◌}
 use Rattle.std.proofs.Math.Option.{Option, none, some}
-use Rattle.rules.specs.Basics.{if◌then◌else◌, Result, accept, refuse}
+use Rattle.rules.specs.Basics.{Result, accept, refuse}
 use Rattle.rules.specs.Values as v
 use Rattle.rules.specs.Tables.{ClassEntry, holds_key, memberships}
 use Rattle.rules.specs.Graph as g

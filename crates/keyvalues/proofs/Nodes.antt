@@ -1,4 +1,5 @@
 -- Nodes in two lists of words.
+use Rattle.std.specs.Prelude.{if◌then◌else◌}
 use Prim.Native.Nat.{ℕ, zero, suc, ◌+◌, ◌-◌, ◌/◌, ◌%◌, ◌<◌, ◌≤◌, min}
 use mathlib.Core.Path.{◌≡◌, refl, sym, ap, ◌∙◌}
 use mathlib.Core.Bool.{Bool, true, false}
@@ -10,7 +11,7 @@ use Rattle.rules.specs.Calls.{HintFits, nodes_left}
 use lib.ListN.{length, take, set, get_or, length-take, get_or-eq_default}
 use lib.Seq.{get_or-take, take-set-lt, take-suc-set, set_out}
 use borrow.Author.Tests.{lt-ltb, le-ltb, eq-eqb, ne_eqb, eqb-false, ltb-true, ltb-false}
-use Rattle.rules.specs.Basics.{if◌then◌else◌, accept, refuse, unless}
+use Rattle.rules.specs.Basics.{accept, refuse, unless}
 use Rattle.rules.specs.Graph.{Node, Empty, Root, Holds, Edge, Graph, add_node, settle, no_node, get_node}
 use Rattle.keyvalues.specs.View.{zip_with, node_at, action_at, step_at, nodes_of, graph_by}
 

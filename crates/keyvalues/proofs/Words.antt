@@ -1,4 +1,5 @@
 -- Laws of the words: events, options, actions, steps, nodes and classes.
+use Rattle.std.specs.Prelude.{if◌then◌else◌}
 use Prim.Native.Nat.{ℕ, zero, suc, ◌+◌, ◌-◌, ◌*◌, ◌/◌, ◌%◌, ◌<◌, ◌≤◌, min}
 use mathlib.Core.Path.{◌≡◌, refl, sym, ap, ◌∙◌}
 use mathlib.Core.Bool.{Bool, true, false}
@@ -9,7 +10,6 @@ use lib.Dec.{ltb, leb, eqb}
 use lib.ListN.{length, take, get_or}
 use borrow.Author.Tests.{lt-ltb, le-ltb, eq-eqb, eqb-true, ltb-false, leb-true, leb-false}
 use lib.Seq.{take_all}
-use Rattle.rules.specs.Basics.{if◌then◌else◌}
 use Rattle.rules.specs.Values.{Key, Class, Any, Fallthrough, same_event, Step}
 use Rattle.rules.specs.Graph.{Empty, Holds}
 use Rattle.rules.proofs.Tests.{both_ways, event_is, event_same}

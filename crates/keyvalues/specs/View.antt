@@ -1,9 +1,9 @@
 -- What the declared types of values and the words that they are kept in mean, in the values of the rules. Every word decodes to
 -- something.
-use Rattle.std.specs.Prelude.{ℕ, zero, suc, ◌+◌, ◌-◌, ◌/◌, ◌%◌, Bool, true, false, List, [], ◌∷◌, ◌++◌, map, ltb, eqb, length, take, drop, replicate, get_or}
+use Rattle.std.specs.Prelude.{ℕ, zero, suc, ◌+◌, ◌-◌, ◌/◌, ◌%◌, Bool, true, false, List, [], ◌∷◌, ◌++◌, map, ltb, eqb, length, take, drop, replicate, get_or, if◌then◌else◌}
 use Rattle.std.proofs.Math.Option.{Option, none, some}
 use Rattle.std.proofs.Math.Seq.{paste}
-use Rattle.rules.specs.Basics.{if◌then◌else◌, Result, accept, refuse}
+use Rattle.rules.specs.Basics.{Result, accept, refuse}
 use Rattle.rules.specs.Values as v
 use Rattle.rules.specs.Tables.{ClassEntry}
 use Rattle.rules.specs.Graph as g

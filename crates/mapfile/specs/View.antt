@@ -1,6 +1,6 @@
 -- What the answers of the file's functions mean, in the values of the rules.
-use Rattle.std.specs.Prelude.{ℕ, ◌+◌, ◌≤◌, ◌≡◌, Bool, true, false, List, [], ◌∷◌, ◌++◌, leb, length, take, drop}
-use Rattle.rules.specs.Basics.{Result, accept, refuse, ◌>>=◌, if◌then◌else◌}
+use Rattle.std.specs.Prelude.{ℕ, ◌+◌, ◌≤◌, ◌≡◌, Bool, true, false, List, [], ◌∷◌, ◌++◌, leb, length, take, drop, if◌then◌else◌}
+use Rattle.rules.specs.Basics.{Result, accept, refuse, ◌>>=◌}
 use Rattle.rules.specs.Values.{Pair}
 use Rattle.rules.specs.Numbers.{bytes_of}
 use Rattle.rules.specs.MapFile.{Reader, then_read, lifted, read_binding}

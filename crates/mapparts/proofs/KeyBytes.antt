@@ -1,5 +1,6 @@
 -- The keys of a run. A number takes a byte at least, so reading keys needs no fuel but the bytes themselves: it goes number
 -- by number.
+use Rattle.std.specs.Prelude.{if◌then◌else◌}
 use Prim.Native.Nat.{ℕ, zero, suc, ◌-◌, ◌≤◌, ◌<◌}
 use native.Mathlib.Omega.{arith}
 use mathlib.Core.Path.{◌≡◌, refl, sym, ap, ◌∙◌, subst}
@@ -7,7 +8,7 @@ use mathlib.Core.Bool.{Bool, true, false, ◌&&◌}
 use mathlib.Core.List.{List, [], ◌∷◌}
 use lib.Dec.{ltb, leb}
 use lib.ListN.{length, drop, length-drop, drop_of_length-le}
-use Rattle.rules.specs.Basics.{if◌then◌else◌, Result, accept, refuse, ◌>>=◌, unless}
+use Rattle.rules.specs.Basics.{Result, accept, refuse, ◌>>=◌, unless}
 use Rattle.rules.specs.Numbers.{groups, value_of, shortest, number, number_up_to}
 use Rattle.rules.specs.Run.{numbers_in, read_keys}
 use Rattle.mapparts.specs.View.{Checked}

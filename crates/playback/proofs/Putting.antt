@@ -1,6 +1,7 @@
 -- What is put behind what was put is put at once: the place is the sum of the lengths, and bytes laid behind bytes are laid
 -- at once. Where they do not all fit, nothing is told of the bytes. So a text that was put from the front on, or zeros where
 -- it did not fit, is what it comes to in lent bytes.
+use Rattle.std.specs.Prelude.{if◌then◌else◌}
 use Prim.Native.Nat.{ℕ, zero, suc, ◌+◌, ◌-◌, ◌/◌, ◌%◌, ◌≤◌, ◌<◌}
 use native.Mathlib.Omega.{arith}
 use native.Mathlib.Nat.{add-zero}
@@ -12,7 +13,6 @@ use lib.Dec.{ltb, leb}
 use lib.ListN.{length, take, drop, set, get_or, length-append, length-set, take-append-drop, replicate}
 use lib.Seq.{sets-eq, take-suc}
 use borrow.Author.Tests.{ltb-false, lt-ltb, le-ltb, leb-true, le-leb, lt-leb}
-use Rattle.rules.specs.Basics.{if◌then◌else◌}
 use Rattle.rules.specs.Run.{decimal}
 use Rattle.mapfile.specs.View.{laid}
 use Rattle.mapfile.proofs.Writing.{laid_laid}

@@ -1,6 +1,5 @@
 -- What a text comes to in lent bytes, and what the functions that put its parts there tell.
-use Rattle.std.specs.Prelude.{ℕ, ◌+◌, ◌≤◌, ◌<◌, ◌≡◌, List, ◌++◌, leb, length, drop, replicate}
-use Rattle.rules.specs.Basics.{if◌then◌else◌}
+use Rattle.std.specs.Prelude.{ℕ, ◌+◌, ◌≤◌, ◌<◌, ◌≡◌, List, ◌++◌, leb, length, drop, replicate, if◌then◌else◌}
 use Rattle.rules.specs.Values.{Pair}
 use Rattle.rules.specs.Numbers.{bytes_of}
 use Rattle.rules.specs.Run.{line_of}

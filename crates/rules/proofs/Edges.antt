@@ -1,5 +1,6 @@
 -- The edge table as a function of start and event. An added edge replaces the one with its start and event or stands at the
 -- end; either way that start and event now give its end, all others give what they gave, and only a new one needs room.
+use Rattle.std.specs.Prelude.{if◌then◌else◌}
 use Prim.Native.Nat.{ℕ, suc, ◌≤◌}
 use native.Mathlib.Omega.{arith}
 use mathlib.Core.Path.{◌≡◌, refl, sym, ap, ap₂, ◌∙◌}
@@ -8,7 +9,7 @@ use mathlib.Core.Option.{Option, none, some}
 use mathlib.Core.List.{List, [], ◌∷◌, ◌++◌}
 use lib.Dec.{eqb, ltb}
 use lib.ListN.{length}
-use Rattle.rules.specs.Basics.{accept, if◌then◌else◌, some_of, is_there}
+use Rattle.rules.specs.Basics.{accept, some_of, is_there}
 use Rattle.rules.specs.Values.{most_edges, Event, same_event}
 use Rattle.rules.specs.Graph.{Node, Edge, Graph, is_edge, end_in, get_edge, has_edges, replace_in, put_edge, add_edge}
 use Rattle.rules.proofs.Tests.{by_cases, and_false, no_way, void, and_l, and_r, eqb_is, eqb_same, event_is, event_same}

@@ -1,5 +1,6 @@
 -- Document 02, request (ii): what find gives, said without computing it. Why it is so: the search goes through the nodes in the
 -- order of their numbers and stops at the first that passes the test, and the test holds of the nodes that have the action alone.
+use Rattle.std.specs.Prelude.{if◌then◌else◌}
 use Prim.Native.Nat.{ℕ, zero, suc, ◌+◌, ◌≤◌, ◌<◌}
 use native.Mathlib.Omega.{arith}
 use mathlib.Core.Path.{◌≡◌, refl, sym, ap, subst, ◌∙◌}
@@ -11,7 +12,7 @@ use lib.Dec.{eqb, ltb}
 use lib.ListN.{length, get_or}
 use borrow.Author.Count.{below_more}
 use borrow.Author.Tests.{ltb-true, ltb-false}
-use Rattle.rules.specs.Basics.{if◌then◌else◌, Result, accept, refuse, unless, some_of}
+use Rattle.rules.specs.Basics.{Result, accept, refuse, unless, some_of}
 use Rattle.rules.specs.Values.{Step}
 use Rattle.rules.specs.Graph.{NodeAction, Empty, Root, Holds, Node, Graph, no_node, get_node}
 use Rattle.rules.specs.Calls.{does, holds_action, first_node, find}

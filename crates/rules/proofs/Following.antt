@@ -1,6 +1,7 @@
 -- One round on a graph and on a list of mappings that it represents: the edge for an event is there exactly if the place then
 -- the event is an opening, it leads to the node of that opening, and what is found there is the last step of that path. A
 -- node has edges exactly if a longer opening begins so or a fallthrough mode is named there.
+use Rattle.std.specs.Prelude.{if◌then◌else◌}
 use Prim.Native.Nat.{ℕ}
 use mathlib.Core.Path.{◌≡◌, refl, sym, ap, ap₂, ◌∙◌}
 use mathlib.Core.Bool.{Bool, true, false, ◌||◌}
@@ -8,7 +9,7 @@ use mathlib.Core.Option.{Option, none, some}
 use mathlib.Core.List.{List, [], ◌∷◌, ◌++◌, append-nil}
 use mathlib.Core.Logic.{⊎_elim, ◌≢◌}
 use lib.Dec.{T, eqb}
-use Rattle.rules.specs.Basics.{if◌then◌else◌, some_of, present, is_there}
+use Rattle.rules.specs.Basics.{some_of, present, is_there}
 use Rattle.rules.specs.Values.{is_mode, Event, Fallthrough, same_event, Step}
 use Rattle.rules.specs.Tables.{ClassEntry, memberships}
 use Rattle.rules.specs.Graph.{Graph, get_edge, has_edges, action_of, Successor, or_else_by, lastly, follow_first, class_events, events_of, follow_edge}

@@ -1,5 +1,6 @@
 -- A graph that grows: adding refuses with 2, 3 or 4 alone, and its edge table changes by `add_edge` alone. So whatever a stored
 -- edge keeps is kept by every map and prefix call; for one, that of one start and one event there is at most one edge.
+use Rattle.std.specs.Prelude.{if◌then◌else◌}
 use Prim.Native.Nat.{ℕ, zero, suc, ◌+◌, ◌<◌, max}
 use native.Mathlib.Omega.{arith}
 use mathlib.Core.Path.{◌≡◌, refl, sym, ap, ap₂, ◌∙◌}
@@ -8,7 +9,7 @@ use mathlib.Core.Option.{Option, none, some}
 use mathlib.Core.List.{List, [], ◌∷◌, ◌++◌}
 use lib.Dec.{T, ltb, eqb}
 use lib.ListN.{length, get_or}
-use Rattle.rules.specs.Basics.{if◌then◌else◌, is_there}
+use Rattle.rules.specs.Basics.{is_there}
 use Rattle.rules.specs.Values.{mode_count, most_nodes, most_edges, Event, Fallthrough, same_event, Repeat, Once, Min, Max, Part, Step}
 use Rattle.rules.specs.Graph.{NodeAction, Empty, Root, Holds, Edge, Graph, is_edge, end_in, get_edge, get_node, add_node, replace_in, put_edge, add_edge, settle, upsert_at, upsert_node}
 use Rattle.rules.specs.Graph.{Cursor, cursor, edge_to, edge_between, node_for, add_simple_step, add_simples, add_optionals, add_min, add_max, add_repeat, go_on, add_intermediate}

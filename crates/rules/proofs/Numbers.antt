@@ -1,6 +1,7 @@
 -- Numbers as bytes. A number below 128 × 128 × 128 has at most three groups in the shortest form, since the last of four is
 -- not 0 and so stands for 128 × 128 × 128 at least. So `number` goes by its first three bytes; reading what was written
 -- gives the number back, and whatever is read is what writing gives.
+use Rattle.std.specs.Prelude.{if◌then◌else◌}
 use Prim.Native.Nat.{ℕ, zero, suc, ◌+◌, ◌-◌, ◌*◌, ◌/◌, ◌%◌, ◌≤◌, ◌<◌}
 use native.Mathlib.Omega.{arith}
 use native.Mathlib.Nat.{add-zero}
@@ -10,7 +11,7 @@ use mathlib.Core.Logic.{◌⊎◌, inl, inr}
 use mathlib.Core.List.{List, [], ◌∷◌, ◌++◌}
 use lib.Dec.{leb, ltb, eqb, eqb-suc-zero}
 use borrow.Author.Tests.{ltb-true, ltb-false, leb-true, eqb-false, lt-ltb, le-ltb, le-leb, lt-leb, ne_eqb}
-use Rattle.rules.specs.Basics.{if◌then◌else◌, Result, accept, refuse, ◌>>=◌, unless}
+use Rattle.rules.specs.Basics.{Result, accept, refuse, ◌>>=◌, unless}
 use Rattle.rules.specs.Numbers.{groups, value_of, last_group, shortest, number_up_to, bytes_of}
 
 -- a refusal accepts nothing

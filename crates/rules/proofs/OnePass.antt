@@ -1,6 +1,7 @@
 -- Document 02, request (iii): going through a node's edges one time is following. Why it is so: what is remembered after each edge
 -- follows from that edge and what was remembered before it (*one_more*), and there is nothing to take before the first. The key
 -- graph's code has this as the invariant of its loop.
+use Rattle.std.specs.Prelude.{if◌then◌else◌}
 use Prim.Native.Nat.{ℕ, suc}
 use mathlib.Core.Path.{◌≡◌, refl, sym, ap, ◌∙◌}
 use mathlib.Core.Bool.{◌&&◌}
@@ -8,7 +9,6 @@ use mathlib.Core.List.{List, [], ◌∷◌, ◌++◌, append_assoc, append-nil}
 use native.Mathlib.Omega.{arith}
 use lib.Dec.{ltb, eqb}
 use lib.ListN.{length}
-use Rattle.rules.specs.Basics.{if◌then◌else◌}
 use Rattle.rules.specs.Values.{Key, Class, Any, Fallthrough}
 use Rattle.rules.specs.Tables.{ClassEntry}
 use Rattle.rules.specs.Graph.{Node, Edge, is_edge, end_in, get_edge, Follow, Successor, FallsTo, NoSuccessor, events_of, follow_edge}

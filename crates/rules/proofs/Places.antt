@@ -1,6 +1,7 @@
 -- Places and their numbers. The list reader's openings are listed newest first, as they are noted; the node of an opening is
 -- its position from the back of that list, after the sixteen roots. So a node's number is a function of the mappings, it
 -- never changes when openings are added, and a map call that makes its nodes one after another makes them in this order.
+use Rattle.std.specs.Prelude.{if◌then◌else◌}
 use Prim.Native.Nat.{ℕ, ◌+◌, ◌<◌, ◌≤◌}
 use native.Mathlib.Omega.{arith}
 use mathlib.Core.Path.{◌≡◌, refl, sym, ap, ap₂, ◌∙◌, fun_ext}
@@ -10,7 +11,7 @@ use mathlib.Core.List.{List, [], ◌∷◌, ◌++◌, map, append_assoc, head-eq
 use mathlib.Core.Logic.{◌⊎◌, inl, inr}
 use lib.Dec.{T, leb, ltb, nltb→le, leb→le, le→leb}
 use lib.ListN.{length}
-use Rattle.rules.specs.Basics.{Result, accept, ◌>>=◌, unless, if◌then◌else◌, some_of, is_there, or_else}
+use Rattle.rules.specs.Basics.{Result, accept, ◌>>=◌, unless, some_of, is_there, or_else}
 use Rattle.rules.specs.Values.{mode_count, most_nodes, is_mode, Event}
 use Rattle.rules.specs.ListReader.{Mapping, Place, place, same_place, starts, openings_of, is_among, note, note_all, openings, last_of, exactly_at, step_at, fall_at, further}
 use Rattle.rules.proofs.Tests.{true_lt, by_cases, no_way, void, T-is, is_T, place_is, not_there}

@@ -1,6 +1,7 @@
 -- Why one more edge changes what following takes as `better` says: event by event, from the last that a key matches to the first. With
 -- one event more in front, following goes by that event if it has an edge, and the new edge is taken if it is the first for it; an
 -- edge that is behind it in rank changes nothing then, and else all is as without it.
+use Rattle.std.specs.Prelude.{if◌then◌else◌}
 use Prim.Native.Nat.{ℕ, suc}
 use mathlib.Core.Path.{◌≡◌, refl, sym, ap, ◌∙◌}
 use mathlib.Core.Bool.{Bool, true, false, ◌&&◌}
@@ -10,7 +11,7 @@ use native.Mathlib.Omega.{arith}
 use lib.Dec.{ltb}
 use lib.ListN.{length}
 use borrow.Author.Tests.{le-ltb}
-use Rattle.rules.specs.Basics.{if◌then◌else◌, or_else}
+use Rattle.rules.specs.Basics.{or_else}
 use Rattle.rules.specs.Values.{Event, Key, Class, Any, Fallthrough, same_event}
 use Rattle.rules.specs.Tables.{ClassEntry, holds_key, memberships}
 use Rattle.rules.specs.Graph.{Edge, is_edge, end_in, Follow, Successor, FallsTo, NoSuccessor, or_else_by, lastly, follow_first, class_events, events_of}

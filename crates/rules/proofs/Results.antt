@@ -1,11 +1,12 @@
 -- What is always so of a result: if it is accepted, of the value, and if it is refused, of the number. So of a push: it is
 -- refused with 6 or 5 alone, and an accepted one leaves the tables, the entered mode and the trail as they were.
+use Rattle.std.specs.Prelude.{if◌then◌else◌}
 use Prim.Native.Nat.{ℕ}
 use mathlib.Core.Bool.{Bool, true, false}
 use mathlib.Core.List.{List, [], ◌∷◌}
 use lib.Dec.{T, ltb}
 use lib.ListN.{length, get_or}
-use Rattle.rules.specs.Basics.{Result, accept, refuse, ◌>>=◌, unless, if◌then◌else◌}
+use Rattle.rules.specs.Basics.{Result, accept, refuse, ◌>>=◌, unless}
 use Rattle.rules.specs.Values.{most_queued, most_tracked, Context, Pair}
 use Rattle.rules.specs.Tables.{Status, Atom, Break, Ignore, Restart, Track, status_of, Rule, matches, Tables}
 use Rattle.rules.specs.KeyLoop.{Tracker, no_tracker, track, Shared, apply_rule, apply_rules, push, push_all, give_all}

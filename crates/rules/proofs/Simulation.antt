@@ -1,6 +1,7 @@
 -- Two ways of following keys that agree place by place give the same key results: the loop looks at a place only through
 -- its turn, its mode and the roots, so two states that differ in the place alone stay so, round by round.
 -- What is carried along besides: the tables are such as open accepts, the entered mode is a mode, and no refusal is 3 or 4.
+use Rattle.std.specs.Prelude.{if◌then◌else◌}
 use Prim.Native.Nat.{ℕ, zero, suc}
 use mathlib.Core.Path.{◌≡◌}
 use mathlib.Core.Bool.{Bool, true, false, not, ◌&&◌}
@@ -8,7 +9,7 @@ use mathlib.Core.Option.{Option, none, some, get_or}
 use mathlib.Core.List.{List, [], ◌∷◌, ◌++◌}
 use lib.Dec.{T, ltb, leb, eqb}
 use lib.ListN.{length, drop}
-use Rattle.rules.specs.Basics.{Result, accept, refuse, ◌>>=◌, unless, if◌then◌else◌, every, present}
+use Rattle.rules.specs.Basics.{Result, accept, refuse, ◌>>=◌, unless, every, present}
 use Rattle.rules.specs.Values.{most_classes, mode_count, most_actions, most_trail, decomposes, is_mode, default_action, Event, Step}
 use Rattle.rules.specs.Tables.{ClassEntry, class_valid, ModeEntry, no_entry, mode_entry, mode_valid, Tables, tables_valid}
 use Rattle.rules.specs.KeyLoop.{Shared, with_mode, with_trail, give_all}

@@ -2,12 +2,7 @@
 use Rattle.std.specs.Prelude.{ℕ, Bool, true, false, ◌&&◌, ◌||◌, List, [], ◌∷◌}
 use Rattle.std.proofs.Math.Option.{Option, none, some}
 
-infix 4 if◌then◌else◌
 infixl 5 ◌>>=◌
-abbrev pub if◌then◌else◌ {ℓ} : {A : Type ℓ} → Bool → A → A → A
-if true then x else y = x
-if false then x else y = y
-
 -- ---- refusal
 
 -- What a call comes to: a value, or the number of the refusal. A refusal carries no state, so it can leave none changed

@@ -1,8 +1,8 @@
 -- Document 01, "Refused calls, operation by operation": open, map, prefix, key, pop, repeat, reset and mode on a machine
 -- over any store of bindings; the graph machine; lists of calls; find; and what holds of the node hint.
-use Rattle.std.specs.Prelude.{ℕ, suc, ◌+◌, ◌-◌, ◌≤◌, ◌≡◌, Bool, false, ◌&&◌, List, [], ◌∷◌, ◌++◌, eqb, ltb, length}
+use Rattle.std.specs.Prelude.{ℕ, suc, ◌+◌, ◌-◌, ◌≤◌, ◌≡◌, Bool, false, ◌&&◌, List, [], ◌∷◌, ◌++◌, eqb, ltb, length, if◌then◌else◌}
 use Rattle.std.proofs.Math.Option.{Option, none, some}
-use Rattle.rules.specs.Basics.{if◌then◌else◌, Result, accept, refuse, ◌>>=◌, unless, some_of}
+use Rattle.rules.specs.Basics.{Result, accept, refuse, ◌>>=◌, unless, some_of}
 use Rattle.rules.specs.Values.{mode_count, most_nodes, most_kept, is_mode, default_mode, Event, Part, Step, map_valid, prefix_valid, Binding, Maps, Prefixes, Context, Pair}
 use Rattle.rules.specs.Tables.{Tables, tables_valid}
 use Rattle.rules.specs.Graph.{NodeAction, Empty, Root, Holds, Node, Graph, fresh_graph, get_node, has_edges, Follow, Successor, FallsTo, NoSuccessor, follow_edge, add_mapping, add_prefix}

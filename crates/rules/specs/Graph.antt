@@ -1,8 +1,8 @@
 -- Document 01, "Graph": nodes and edges, following, and adding, by the Rust's functions of `Graph` and `InputMachine`
 -- under their names and in their order of work, so that the refusals 2, 3 and 4 come as the Rust meets them.
-use Rattle.std.specs.Prelude.{ℕ, zero, suc, ◌+◌, max, Bool, true, false, ◌&&◌, List, [], ◌∷◌, ◌++◌, ltb, eqb, length, get_or, set}
+use Rattle.std.specs.Prelude.{ℕ, zero, suc, ◌+◌, max, Bool, true, false, ◌&&◌, List, [], ◌∷◌, ◌++◌, ltb, eqb, length, get_or, set, if◌then◌else◌}
 use Rattle.std.proofs.Math.Option.{Option, none, some}
-use Rattle.rules.specs.Basics.{if◌then◌else◌, Result, accept, refuse, ◌>>=◌, unless, some_of}
+use Rattle.rules.specs.Basics.{Result, accept, refuse, ◌>>=◌, unless, some_of}
 use Rattle.rules.specs.Values.{mode_count, most_nodes, most_edges, Event, Key, Class, Any, Fallthrough, same_event, Repeat, Once, Min, Max, Part, Step}
 use Rattle.rules.specs.Tables.{ClassEntry, memberships}
 

@@ -1,9 +1,9 @@
 -- Document 01, "Key loop": the loop of `input_key` over any way of following keys, with `push`, `goto_mode`, `unmapped`,
 -- `step`, `repeat` and `reset_mode`. The graph machine and the list reader share everything in this file.
-use Rattle.std.specs.Prelude.{ℕ, zero, suc, ◌+◌, Bool, true, false, List, [], ◌∷◌, ◌++◌, map, leb, ltb, length, get_or, set, drop, replicate}
+use Rattle.std.specs.Prelude.{ℕ, zero, suc, ◌+◌, Bool, true, false, List, [], ◌∷◌, ◌++◌, map, leb, ltb, length, get_or, set, drop, replicate, if◌then◌else◌}
 use Rattle.std.proofs.Math.Option
 use Rattle.std.proofs.Math.Option.{Option, none, some}
-use Rattle.rules.specs.Basics.{if◌then◌else◌, Result, accept, refuse, ◌>>=◌, unless}
+use Rattle.rules.specs.Basics.{Result, accept, refuse, ◌>>=◌, unless}
 use Rattle.rules.specs.Values.{sequence_count, most_queued, most_tracked, most_trail, decomposes, first_key, rest_of, is_sequence, default_mode, default_action}
 use Rattle.rules.specs.Values.{Event, Step, Context, no_context, hook, take, merge, Pair}
 use Rattle.rules.specs.Tables.{ClassEntry, mode_entry, Status, Atom, Break, Ignore, Restart, Track, status_of, Rule, matches, Tables, no_tables}

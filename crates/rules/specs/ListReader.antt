@@ -1,8 +1,8 @@
 -- Document 01, "List reader": a machine that holds only the accepted mappings, in order, and a place. Its openings, its
 -- searches and its fallthrough stand here; all else is the key loop.
-use Rattle.std.specs.Prelude.{ℕ, Bool, true, false, ◌&&◌, ◌||◌, List, [], ◌∷◌, ◌++◌, map, leb, ltb, eqb, length}
+use Rattle.std.specs.Prelude.{ℕ, Bool, true, false, ◌&&◌, ◌||◌, List, [], ◌∷◌, ◌++◌, map, leb, ltb, eqb, length, if◌then◌else◌}
 use Rattle.std.proofs.Math.Option.{Option, none, some}
-use Rattle.rules.specs.Basics.{if◌then◌else◌, Result, accept, refuse, unless, every, some_of, is_there, or_else}
+use Rattle.rules.specs.Basics.{Result, accept, refuse, unless, every, some_of, is_there, or_else}
 use Rattle.rules.specs.Values.{most_nodes, Event, Key, Class, Any, Fallthrough, same_event, Repeat, Once, Min, Max, Part, Step}
 use Rattle.rules.specs.Tables.{ClassEntry}
 use Rattle.rules.specs.Graph.{events_of}

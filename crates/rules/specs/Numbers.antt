@@ -1,6 +1,6 @@
 -- Document 01, "Map file and run": a number as bytes, read and written.
-use Rattle.std.specs.Prelude.{ℕ, ◌+◌, ◌-◌, ◌*◌, ◌/◌, ◌%◌, Bool, true, false, not, ◌&&◌, List, [], ◌∷◌, leb, ltb, eqb}
-use Rattle.rules.specs.Basics.{if◌then◌else◌, Result, accept, refuse, ◌>>=◌, unless}
+use Rattle.std.specs.Prelude.{ℕ, ◌+◌, ◌-◌, ◌*◌, ◌/◌, ◌%◌, Bool, true, false, not, ◌&&◌, List, [], ◌∷◌, leb, ltb, eqb, if◌then◌else◌}
+use Rattle.rules.specs.Basics.{Result, accept, refuse, ◌>>=◌, unless}
 use Rattle.rules.specs.Values.{largest}
 
 -- groups of seven bits, lowest first, 80 set on all but the last; and the bytes after them. 9 the bytes end early

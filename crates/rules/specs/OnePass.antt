@@ -1,7 +1,6 @@
 -- Document 02, request (iii): going through edges one time, an edge after another, with the best edge so far remembered.
 -- `proofs/OnePass` has the theorem that this is following.
-use Rattle.std.specs.Prelude.{ℕ, suc, ◌+◌, ◌&&◌, List, [], ◌∷◌, ltb, eqb, length}
-use Rattle.rules.specs.Basics.{if◌then◌else◌}
+use Rattle.std.specs.Prelude.{ℕ, suc, ◌+◌, ◌&&◌, List, [], ◌∷◌, ltb, eqb, length, if◌then◌else◌}
 use Rattle.rules.specs.Values.{Event, Key, Class, Any, Fallthrough, same_event}
 use Rattle.rules.specs.Tables.{ClassEntry, holds_key}
 use Rattle.rules.specs.Graph.{Edge, Follow, Successor, FallsTo, NoSuccessor}

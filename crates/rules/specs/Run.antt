@@ -1,6 +1,6 @@
 -- Document 01, "Map file and run": the run on map, keys and output, and the program `keyplay`.
-use Rattle.std.specs.Prelude.{ℕ, zero, suc, ◌+◌, ◌*◌, ◌/◌, ◌%◌, min, Bool, true, false, List, [], ◌∷◌, ◌++◌, leb, ltb, length, take, drop, replicate}
-use Rattle.rules.specs.Basics.{if◌then◌else◌, Result, accept, refuse, ◌>>=◌, unless}
+use Rattle.std.specs.Prelude.{ℕ, zero, suc, ◌+◌, ◌*◌, ◌/◌, ◌%◌, min, Bool, true, false, List, [], ◌∷◌, ◌++◌, leb, ltb, length, take, drop, replicate, if◌then◌else◌}
+use Rattle.rules.specs.Basics.{Result, accept, refuse, ◌>>=◌, unless}
 use Rattle.rules.specs.Values.{Pair}
 use Rattle.rules.specs.KeyLoop.{State, KeyResult, Input, at, with_queue}
 use Rattle.rules.specs.Calls.{Machine, graph_kind, key_call, with_state}

@@ -1,7 +1,7 @@
 -- Document 01, "From the Rust to tables": class table, mode table and sequence rules.
-use Rattle.std.specs.Prelude.{ℕ, Bool, true, false, ◌&&◌, List, [], ◌∷◌, ◌++◌, leb, ltb, eqb, length, get_or}
+use Rattle.std.specs.Prelude.{ℕ, Bool, true, false, ◌&&◌, List, [], ◌∷◌, ◌++◌, leb, ltb, eqb, length, get_or, if◌then◌else◌}
 use Rattle.std.proofs.Math.Option.{Option, none, some}
-use Rattle.rules.specs.Basics.{if◌then◌else◌, every, present}
+use Rattle.rules.specs.Basics.{every, present}
 use Rattle.rules.specs.Values.{mode_count, most_classes, most_actions, most_rules, is_mode, is_class, is_sequence, is_status}
 
 -- ---- class table

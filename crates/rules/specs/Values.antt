@@ -1,9 +1,9 @@
 -- Document 01, "From the Rust to tables": the values, their limits and ranges, context, step and pair.
 -- Numbers are natural numbers. That a value fits 16 bits is a matter of the code's types and is not tested here; every
 -- other range is, by a function named after the value (`is…` for a number, `…Valid` for what is made of several).
-use Rattle.std.specs.Prelude.{ℕ, ◌+◌, ◌-◌, ◌*◌, min, Bool, true, false, ◌&&◌, List, [], leb, ltb, eqb, length}
+use Rattle.std.specs.Prelude.{ℕ, ◌+◌, ◌-◌, ◌*◌, min, Bool, true, false, ◌&&◌, List, [], leb, ltb, eqb, length, if◌then◌else◌}
 use Rattle.std.proofs.Math.Option.{Option, none, some}
-use Rattle.rules.specs.Basics.{if◌then◌else◌, every, present}
+use Rattle.rules.specs.Basics.{every, present}
 
 -- ---- limits
 
