@@ -1,7 +1,6 @@
 // Adding a prefix, in place. A prefix may have a step: `chosen` says so, and else the step beside it is not looked at.
-ghost use Rattle.std.specs.Prelude.{◌≡◌, [], ◌∷◌, Bool, true, false, ◌&&◌, ◌<◌, max, eqb, length};
+ghost use Rattle.std.specs.Prelude.{◌≡◌, [], ◌∷◌, Bool, true, false, ◌&&◌, ◌<◌, max, eqb, length, if◌then◌else◌};
 ghost use Rattle.std.proofs.Math.Option.{Option};
-ghost use Rattle.rules.specs.Basics as b;
 ghost use Rattle.rules.specs.Values as v;
 ghost use Rattle.rules.specs.Graph as g;
 ghost use Rattle.keyvalues.specs.View.{event_at, node_in, part_of, repeat_of, step_of, path_of, whole_path, whole_step, chosen_of, steps_valid, result_by};
@@ -188,7 +187,7 @@ fn prefix_step_valid(chosen: bool, step: Step) -> bool
 
 // The rules' least number of times for Min: one at least, where the part is the whole path.
 fn at_least(single: bool, n: u16) -> u16
-    ensures { result ≡ (b.if◌then◌else◌ single (max 1 n) n) }
+    ensures { result ≡ (if single then max 1 n else n) }
 {
     if single {
         if n == 0 {
