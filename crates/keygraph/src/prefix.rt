@@ -1,5 +1,6 @@
 // Adding a prefix, in place. A prefix may have a step: `chosen` says so, and else the step beside it is not looked at.
 ghost use Rattle.std.specs.Prelude.{◌≡◌, [], ◌∷◌, Bool, true, false, ◌&&◌, ◌<◌, max, eqb, length, if◌then◌else◌};
+ghost use Rattle.rules.specs.Basics as b;
 ghost use Rattle.std.proofs.Math.Option.{Option};
 ghost use Rattle.rules.specs.Values as v;
 ghost use Rattle.rules.specs.Graph as g;
