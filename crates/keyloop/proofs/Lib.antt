@@ -5,3 +5,4 @@ pub mod Stack
 pub mod Loop
 pub mod Navigators
 pub mod Words
+pub mod Turned

@@ -8,7 +8,7 @@ use native.Mathlib.Numerals.{add-one}
 use lib.ListN.{length, take, drop, set, get_or, length-drop, length-set, drop_of_length-le}
 use lib.Seq.{drop-cons, take-suc-set}
 use borrow.Author.Tests.{lt-ltb, le-ltb, le-leb, lt-leb}
-use Rattle.rules.specs.Basics.{accept, refuse, ◌>>=◌}
+use Rattle.rules.specs.Basics.{accept, refuse}
 use Rattle.rules.specs.Values.{Step}
 use Rattle.rules.specs.KeyLoop.{with_trail, State, at, clear_trail, KeyResult, Navigator, InputResult, Again, ClearTrail, Consumed, NeedMore, Unmapped, RunStep, RetryAfter, run_hook, unmapped, step, after, round, proceed, loop, input_key}
 use Rattle.rules.proofs.Weights.{weight_cons, weight_nil, weight_append, weight_drop, length-weight}

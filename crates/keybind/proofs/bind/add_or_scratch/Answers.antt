@@ -2,11 +2,6 @@
 use Rattle.keyvalues.specs.View.{whole_path, whole_step}
 use Rattle.keyparts.specs.View.{graph_in}
 use Rattle.keybind.proofs.Binds.{as_mapping, as_prefix}
-use borrow.Author.Rules.{rules}
-use Rattle.keybind.proofs.bind.add_or_scratch.Reads as reads
-use Rattle.keybind.proofs.bind.add_or_scratch.Lts as lts
-use Rattle.keygraph.proofs.mapping.add_mapping_or_scratch.Reads as add-mapping-or-scratch-reads
-use Rattle.keygraph.proofs.prefix.add_prefix_or_scratch.Reads as add-prefix-or-scratch-reads
 use Rattle.keybind.proofs.bind.add_or_scratch.Goals as goal
 
 -- src/bind.rt:42:9

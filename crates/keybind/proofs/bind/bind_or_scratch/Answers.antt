@@ -2,11 +2,6 @@
 use Rattle.keyparts.specs.View.{graph_in}
 use Rattle.keptcalls.specs.View.{binding_of, calls_in}
 use Rattle.keptcalls.proofs.Calls.{accepted_valid, kept_binds}
-use borrow.Author.Rules.{rules}
-use Rattle.keybind.proofs.bind.bind_or_scratch.Reads as reads
-use Rattle.keybind.proofs.bind.bind_or_scratch.Lts as lts
-use Rattle.keptcalls.proofs.keep.keep.Reads as keep-reads
-use Rattle.keybind.proofs.bind.add_or_scratch.Reads as add-or-scratch-reads
 use Rattle.keybind.proofs.bind.bind_or_scratch.Goals as goal
 
 -- src/bind.rt:48:1

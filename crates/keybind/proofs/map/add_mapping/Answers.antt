@@ -3,10 +3,6 @@ use mathlib.Core.Path.{◌∙◌}
 use Rattle.keyvalues.specs.View.{whole_path, whole_step}
 use Rattle.keybind.specs.View.{map_with}
 use Rattle.keybind.proofs.Binds.{map_is}
-use borrow.Author.Rules.{rules}
-use Rattle.keybind.proofs.map.add_mapping.Reads as reads
-use Rattle.keybind.proofs.map.add_mapping.Lts as lts
-use Rattle.keybind.proofs.map.bind.Reads as bind-reads
 use Rattle.keybind.proofs.map.add_mapping.Goals as goal
 
 -- src/map.rt:65:1

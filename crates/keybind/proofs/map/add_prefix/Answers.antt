@@ -4,11 +4,6 @@ use Rattle.rules.specs.Calls.{graph_kind, settled, bind}
 use Rattle.keyvalues.specs.View.{whole_path, whole_step, chosen_of}
 use Rattle.keybind.specs.View.{map_with}
 use Rattle.keybind.proofs.Binds.{prefix_is}
-use borrow.Author.Rules.{rules}
-use Rattle.keybind.proofs.map.add_prefix.Reads as reads
-use Rattle.keybind.proofs.map.add_prefix.Lts as lts
-use Rattle.keybind.proofs.map.bind.Reads as bind-reads
-use Rattle.keybind.proofs.map.kind_of.Reads as kind-of-reads
 use Rattle.keybind.proofs.map.add_prefix.Goals as goal
 
 -- src/map.rt:88:1

@@ -5,7 +5,6 @@ use Rattle.keyparts.specs.View.{graph_in}
 use Rattle.keptcalls.specs.View.{calls_in, machine_with}
 use Rattle.keybind.specs.View.{map_with}
 use Rattle.keybind.proofs.Binds.{leaves_new, leaves_old}
-use borrow.Author.Rules.{rules}
 use Rattle.keybind.proofs.map.bind.Goals as goal
 
 pub returns-in-Accepted : goal.returns-in-Accepted
