@@ -1,5 +1,4 @@
--- The types that the walks are used at; and laws on what is told to C.
-pub mod Types
+-- Laws on what is told to C.
 pub mod Numbers
 pub mod Bound
 pub mod Size

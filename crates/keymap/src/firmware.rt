@@ -14,16 +14,14 @@ use mapfile::run;
 use mapwrite::map;
 
 // The bytes that C lends for a scanner.
-#[unsafe(no_mangle)]
-pub extern "C" fn keymap_size() -> usize
+pub fn keymap_size() -> usize
     ensures { result ≡ scanner_bytes }
 {
     187896
 }
 
 // The machine of a map file, fresh and with its bindings. Refused, the machine is as it was.
-#[unsafe(no_mangle)]
-pub extern "C" fn keymap_open(m: &mut Scanner, map: &[u8]) -> u64
+pub fn keymap_open(m: &mut Scanner, map: &[u8]) -> u64
     ensures { (scanner_of m.new, result) ≡ coded (open_map (scanner_of m.old) map.now) }
 {
     let r = coded::open(&mut (*m).kept, (*m).machine, map);
@@ -32,8 +30,7 @@ pub extern "C" fn keymap_open(m: &mut Scanner, map: &[u8]) -> u64
 }
 
 // One binding more, in the map file's layout. Refused, the machine is as it was.
-#[unsafe(no_mangle)]
-pub extern "C" fn keymap_bind(m: &mut Scanner, binding: &[u8]) -> u64
+pub fn keymap_bind(m: &mut Scanner, binding: &[u8]) -> u64
     ensures { (scanner_of m.new, result) ≡ coded (bind_map (scanner_of m.old) binding.now) }
 {
     let r = coded::bind(&mut (*m).kept, (*m).machine.map, binding);
@@ -41,8 +38,7 @@ pub extern "C" fn keymap_bind(m: &mut Scanner, binding: &[u8]) -> u64
     r.answer
 }
 
-#[unsafe(no_mangle)]
-pub extern "C" fn keymap_key(m: &mut Scanner, key: u16, budget: u16) -> u64
+pub fn keymap_key(m: &mut Scanner, key: u16, budget: u16) -> u64
     ensures { (scanner_of m.new, result) ≡ coded (call graph_kind (scanner_of m.old) (Press (record { key = key; budget = budget }))) }
 {
     let r = coded::input_key(
@@ -57,8 +53,7 @@ pub extern "C" fn keymap_key(m: &mut Scanner, key: u16, budget: u16) -> u64
     r.answer
 }
 
-#[unsafe(no_mangle)]
-pub extern "C" fn keymap_pop(m: &mut Scanner) -> u64
+pub fn keymap_pop(m: &mut Scanner) -> u64
     ensures { (scanner_of m.new, result) ≡ coded (call graph_kind (scanner_of m.old) Pop) }
 {
     let r = coded::pop((*m).machine.live);
@@ -66,8 +61,7 @@ pub extern "C" fn keymap_pop(m: &mut Scanner) -> u64
     r.answer
 }
 
-#[unsafe(no_mangle)]
-pub extern "C" fn keymap_repeat(m: &mut Scanner, sequence: u16) -> u64
+pub fn keymap_repeat(m: &mut Scanner, sequence: u16) -> u64
     ensures { (scanner_of m.new, result) ≡ coded (call graph_kind (scanner_of m.old) (Repeats sequence none)) }
 {
     let r = coded::repeat((*m).machine.live, sequence);
@@ -75,8 +69,7 @@ pub extern "C" fn keymap_repeat(m: &mut Scanner, sequence: u16) -> u64
     r.answer
 }
 
-#[unsafe(no_mangle)]
-pub extern "C" fn keymap_repeat_over(m: &mut Scanner, sequence: u16, count: u32, mark: u16) -> u64
+pub fn keymap_repeat_over(m: &mut Scanner, sequence: u16, count: u32, mark: u16) -> u64
     ensures { (scanner_of m.new, result) ≡ coded (repeat_over (scanner_of m.old) sequence count mark) }
 {
     let r = coded::repeat_over((*m).machine.live, sequence, count, mark);
@@ -84,8 +77,7 @@ pub extern "C" fn keymap_repeat_over(m: &mut Scanner, sequence: u16, count: u32,
     r.answer
 }
 
-#[unsafe(no_mangle)]
-pub extern "C" fn keymap_reset(m: &mut Scanner) -> u64
+pub fn keymap_reset(m: &mut Scanner) -> u64
     ensures { (scanner_of m.new, result) ≡ coded (call graph_kind (scanner_of m.old) Reset) }
 {
     let r = coded::reset_mode((*m).machine.live, (*m).machine.map.tables);
@@ -94,15 +86,13 @@ pub extern "C" fn keymap_reset(m: &mut Scanner) -> u64
 }
 
 // The four that only look.
-#[unsafe(no_mangle)]
-pub extern "C" fn keymap_mode(m: &Scanner) -> u64
+pub fn keymap_mode(m: &Scanner) -> u64
     ensures { result ≡ mode_call graph_kind (scanner_of m.now) }
 {
     coded::mode((*m).machine.live)
 }
 
-#[unsafe(no_mangle)]
-pub extern "C" fn keymap_find(m: &Scanner, mode: u16, action: u16) -> u64
+pub fn keymap_find(m: &Scanner, mode: u16, action: u16) -> u64
     ensures { result ≡ find_code (find (scanner_of m.now).bindings mode action) }
 {
     coded::find(
@@ -113,8 +103,7 @@ pub extern "C" fn keymap_find(m: &Scanner, mode: u16, action: u16) -> u64
     )
 }
 
-#[unsafe(no_mangle)]
-pub extern "C" fn keymap_free(m: &Scanner) -> u64
+pub fn keymap_free(m: &Scanner) -> u64
     ensures { Hints (scanner_of m.now).bindings result }
 {
     coded::free_nodes((*m).machine.map.graph)
@@ -122,8 +111,7 @@ pub extern "C" fn keymap_free(m: &Scanner) -> u64
 
 // The map file of the machine: its tables and the binding calls that it kept. Length × 32 + refusal; accepted, the bytes stand
 // in front of the output and the rest of it stays; refused, all of it is zeros.
-#[unsafe(no_mangle)]
-pub extern "C" fn keymap_write(m: &Scanner, output: &mut [u8]) -> u64
+pub fn keymap_write(m: &Scanner, output: &mut [u8]) -> u64
     ensures { (result, output.new) ≡ write_call graph_kind (scanner_of m.now) output.old }
 {
     map::write_map(
@@ -135,8 +123,7 @@ pub extern "C" fn keymap_write(m: &Scanner, output: &mut [u8]) -> u64
 }
 
 // A map and keys at once, without a scanner.
-#[unsafe(no_mangle)]
-pub extern "C" fn keymap_run(map: &[u8], keys: &[u8], output: &mut [u8], budget: u16) -> u64
+pub fn keymap_run(map: &[u8], keys: &[u8], output: &mut [u8], budget: u16) -> u64
     ensures { (result, output.new) ≡ answered pair_bytes output.old (run map.now keys.now budget (length output.old)) }
 {
     run::run(map, keys, output, budget)

@@ -1,6 +1,6 @@
 -- Keys played one after another. What is still to be played, from the machine and the pairs so far, comes to what the whole
 -- play comes to; a key that is refused or whose pairs do not fit ends it, and any other leaves one key less.
-use Prim.Native.Nat.{ℕ, zero, suc, ◌+◌, ◌-◌, ◌≤◌, ◌<◌}
+use Prim.Native.Nat.{ℕ, zero, suc, ◌+◌, ◌≤◌, ◌<◌}
 use native.Mathlib.Omega.{arith}
 use native.Mathlib.Nat.{zero-add}
 use mathlib.Core.Path.{◌≡◌, refl, sym, ap, ◌∙◌}

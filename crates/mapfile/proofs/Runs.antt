@@ -1,5 +1,5 @@
 -- A run: the map, then the keys, then the playing; and what is answered to C.
-use Prim.Native.Nat.{ℕ, ◌+◌, ◌*◌, ◌≤◌, min}
+use Prim.Native.Nat.{ℕ, ◌*◌, ◌≤◌, min}
 use native.Mathlib.Omega.{arith}
 use native.Mathlib.Nat.{zero-add}
 use mathlib.Core.Path.{◌≡◌, refl, sym, ap, ap₂, ◌∙◌}
