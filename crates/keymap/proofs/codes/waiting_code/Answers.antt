@@ -1,0 +1,9 @@
+-- Each case of the answer has its own number; three numbers below 2^16 and one bit fit 64 bits.
+use mathlib.Core.Path.{sym, ap}
+use Rattle.keymachine.specs.View.{pop_of}
+use Rattle.keymap.specs.Codes.{answer_code}
+use borrow.Author.Rules.{rules}
+use Rattle.keymap.proofs.codes.waiting_code.Goals as goal
+
+pub returns-in-Pair : goal.returns-in-Pair
+returns-in-Pair c = sym (ap (λ w. answer_code (pop_of w)) c.in-Pair.is)

@@ -1,0 +1,15 @@
+use Prim.Native.Nat.{◌-◌, ◌≤◌}
+use lib.ListN.{length, take}
+use mathlib.Core.List.{map}
+use mathlib.Core.Path.{◌≡◌}
+use Rattle.keytables.specs.View.{blocks, entry_of}
+use Rattle.mapfile.specs.View.{page_of}
+use Rattle.rules.specs.Writing.{mode_numbers}
+use Rattle.mapwrite.proofs.Lists.{Passed}
+use Rattle.mapwrite.proofs.tables.put_modes.Given as goal
+
+abbrev pub invariant-loop-i : goal.invariant-loop-i
+invariant-loop-i l = (l.i ≤ l.n) × (length l.out ≡ length l.initial.out) × Passed mode_numbers (map entry_of (take l.count (blocks 3 16 l.words))) l.i (page_of l.initial.p l.initial.out) (page_of l.p l.out)
+
+abbrev pub decreases-loop-i : goal.decreases-loop-i
+decreases-loop-i l = l.n - l.i
