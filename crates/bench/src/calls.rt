@@ -30,8 +30,7 @@ fn machine_of(bytes: &[u8]) -> ModalMachine {
 }
 
 // By value: a call for each key, and pops up to the one that gives nothing.
-#[unsafe(no_mangle)]
-pub extern "C" fn bench_keys_by_value<'a>(bytes: &'a [u8], keys: &'a [u16], budget: u16) -> u64 {
+pub fn bench_keys_by_value<'a>(bytes: &'a [u8], keys: &'a [u16], budget: u16) -> u64 {
     let mut m = machine_of(bytes);
     let mut sum = 0u64;
     let mut i = 0usize;
@@ -78,8 +77,7 @@ fn remembered() -> u16 {
 
 // Every other call by value, once, for the stack that they use. The answer is the node of a mapping that was added, the
 // nodes that are left above it, and the pairs of a sequence above those.
-#[unsafe(no_mangle)]
-pub extern "C" fn bench_other_calls(bytes: &[u8]) -> u64 {
+pub fn bench_other_calls(bytes: &[u8]) -> u64 {
     let s = scanner_of(bytes);
     let mapped = s.add_mapping(1, crate::two_keys(1, 2), crate::one_action(3));
     let a = mapped.scanner;
@@ -102,8 +100,7 @@ fn stir(sum: u64, word: u16) -> u64 {
 
 // A call by value so many times, for its time, each on the machine that the one before handed back. What would make a later
 // call do less is put back before it. Here a mapping of two keys, bound again and again.
-#[unsafe(no_mangle)]
-pub extern "C" fn bench_mappings(bytes: &[u8], times: u16) -> u64 {
+pub fn bench_mappings(bytes: &[u8], times: u16) -> u64 {
     let mut s = scanner_of(bytes);
     let mut sum = 0u64;
     let mut i = 0u16;
@@ -119,8 +116,7 @@ pub extern "C" fn bench_mappings(bytes: &[u8], times: u16) -> u64 {
 }
 
 // A prefix of two keys without a step, bound again and again.
-#[unsafe(no_mangle)]
-pub extern "C" fn bench_prefixes(bytes: &[u8], times: u16) -> u64 {
+pub fn bench_prefixes(bytes: &[u8], times: u16) -> u64 {
     let mut s = scanner_of(bytes);
     let mut sum = 0u64;
     let mut i = 0u16;
@@ -136,8 +132,7 @@ pub extern "C" fn bench_prefixes(bytes: &[u8], times: u16) -> u64 {
 }
 
 // Keys, of which most have no binding, on an empty queue.
-#[unsafe(no_mangle)]
-pub extern "C" fn bench_inputs(bytes: &[u8], times: u16) -> u64 {
+pub fn bench_inputs(bytes: &[u8], times: u16) -> u64 {
     let mut m = machine_of(bytes);
     let mut sum = 0u64;
     let mut i = 0u16;
@@ -153,8 +148,7 @@ pub extern "C" fn bench_inputs(bytes: &[u8], times: u16) -> u64 {
 }
 
 // Repeats of 64 pairs, overridden, on an empty queue.
-#[unsafe(no_mangle)]
-pub extern "C" fn bench_repeats(bytes: &[u8], times: u16) -> u64 {
+pub fn bench_repeats(bytes: &[u8], times: u16) -> u64 {
     let mut m = machine_of(bytes);
     let mut live = m.live;
     live.sequences[0] = 128;
@@ -173,8 +167,7 @@ pub extern "C" fn bench_repeats(bytes: &[u8], times: u16) -> u64 {
 }
 
 // Resets.
-#[unsafe(no_mangle)]
-pub extern "C" fn bench_resets(bytes: &[u8], times: u16) -> u64 {
+pub fn bench_resets(bytes: &[u8], times: u16) -> u64 {
     let mut m = machine_of(bytes);
     let mut sum = 0u64;
     let mut i = 0u16;
@@ -189,8 +182,7 @@ pub extern "C" fn bench_resets(bytes: &[u8], times: u16) -> u64 {
 }
 
 // Finds, mostly of an action that no step has.
-#[unsafe(no_mangle)]
-pub extern "C" fn bench_finds(bytes: &[u8], times: u16) -> u64 {
+pub fn bench_finds(bytes: &[u8], times: u16) -> u64 {
     let mut m = machine_of(bytes);
     let mut sum = 0u64;
     let mut i = 0u16;
@@ -203,8 +195,7 @@ pub extern "C" fn bench_finds(bytes: &[u8], times: u16) -> u64 {
 }
 
 // Openings with 16 modes, 64 rules and 0 to 16 classes.
-#[unsafe(no_mangle)]
-pub extern "C" fn bench_opens(times: u16) -> u64 {
+pub fn bench_opens(times: u16) -> u64 {
     let mut tables = Tables::empty();
     tables.sizes.modes = 16;
     tables.sizes.rules = 64;

@@ -19,12 +19,7 @@ use keygraph::tables::TableWords;
 use keygraph::{layout, mapping};
 
 // The links of an index of a graph's edges.
-#[unsafe(no_mangle)]
-pub extern "C" fn bench_index(
-    words: &[u64; Graph::WORDS],
-    count: u16,
-    links: &mut [u16; Index::LINKS],
-)
+pub fn bench_index(words: &[u64; Graph::WORDS], count: u16, links: &mut [u16; Index::LINKS])
     requires { length words.now ≡ 4128 }
 {
     let index = layout::index_of(words, count);
@@ -33,8 +28,7 @@ pub extern "C" fn bench_index(
 }
 
 // The node that following a key leads to, or 65,535.
-#[unsafe(no_mangle)]
-pub extern "C" fn bench_follow<'a>(
+pub fn bench_follow<'a>(
     words: &'a [u64; Graph::WORDS],
     count: u16,
     links: &'a [u16; Index::LINKS],
@@ -83,8 +77,7 @@ pub(crate) fn one_action(a: u16) -> Step {
 
 // The nodes of a graph after n bindings of two keys each, added in place. A binding that is refused ends it, with the nodes
 // before it.
-#[unsafe(no_mangle)]
-pub extern "C" fn bench_add_in_place(n: u16) -> u16 {
+pub fn bench_add_in_place(n: u16) -> u16 {
     let g = Graph::fresh();
     let mut words = g.words;
     let mut counts = g.counts;
@@ -107,8 +100,7 @@ pub extern "C" fn bench_add_in_place(n: u16) -> u16 {
 }
 
 // The same, by value, with the calls kept.
-#[unsafe(no_mangle)]
-pub extern "C" fn bench_add_by_value(n: u16) -> u16 {
+pub fn bench_add_by_value(n: u16) -> u16 {
     let graph = Graph::fresh();
     let tables = TableWords::empty();
     let mut kept = [0u64; BindingCall::ALL_WORDS];

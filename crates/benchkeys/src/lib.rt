@@ -85,8 +85,7 @@ fn keys_over<'a>(
     sum
 }
 
-#[unsafe(no_mangle)]
-pub extern "C" fn bench_keys_in_place<'a>(bytes: &'a [u8], keys: &'a [u16], budget: u16) -> u64 {
+pub fn bench_keys_in_place<'a>(bytes: &'a [u8], keys: &'a [u16], budget: u16) -> u64 {
     let mut kept = [0u64; BindingCall::ALL_WORDS];
     let m = map::read_map(bytes, &mut kept);
     let counts = m.map.graph.counts;

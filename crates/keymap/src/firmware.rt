@@ -8,7 +8,7 @@ ghost use Rattle.rules.specs.Writing.{write_call};
 ghost use Rattle.keymachine.specs.View.{scanner_of};
 ghost use Rattle.keymap.specs.Codes.{coded, open_map, bind_map, repeat_over, find_code, Hints, scanner_bytes};
 
-use crate::coded;
+use crate::{coded, over};
 use keymachine::scanner::Scanner;
 use mapfile::run;
 use mapwrite::map;
@@ -41,9 +41,8 @@ pub fn keymap_bind(m: &mut Scanner, binding: &[u8]) -> u64
 pub fn keymap_key(m: &mut Scanner, key: u16, budget: u16) -> u64
     ensures { (scanner_of m.new, result) ≡ coded (call graph_kind (scanner_of m.old) (Press (record { key = key; budget = budget }))) }
 {
-    let r = coded::input_key(
-        &(*m).machine.map.graph.words,
-        (*m).machine.map.graph.counts,
+    let r = over::input_key_coded(
+        &(*m).machine.map.graph,
         (*m).machine.map.tables,
         (*m).machine.live,
         key,
@@ -95,12 +94,7 @@ pub fn keymap_mode(m: &Scanner) -> u64
 pub fn keymap_find(m: &Scanner, mode: u16, action: u16) -> u64
     ensures { result ≡ find_code (find (scanner_of m.now).bindings mode action) }
 {
-    coded::find(
-        &(*m).machine.map.graph.words,
-        (*m).machine.map.graph.counts,
-        mode,
-        action,
-    )
+    over::find_coded(&(*m).machine.map.graph, mode, action)
 }
 
 pub fn keymap_free(m: &Scanner) -> u64

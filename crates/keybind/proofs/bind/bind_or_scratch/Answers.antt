@@ -13,5 +13,9 @@ returns c =
     let b = binding_of a.call in
     let g = graph_in r.new.words r.result.counts in
     let g₀ = graph_in a.words.now a.counts in
-    record { words_len = (r.ensures.words_len, k.ensures.words_len); by_index = λ x. kept_binds b r.result.answer g g₀ r.ensures.counts_after x (calls_in a.count a.kept.now) k.result.answer (calls_in k.result.count k.new.words)
-            (k.ensures.keeps g g₀ x (accepted_valid b r.result.answer g g₀ r.ensures.counts_after)); by_index_2 = k.ensures.by_index }
+    record {
+      words_len = (r.ensures.words_len, k.ensures.words_len);
+      by_index = λ x. kept_binds b r.result.answer g g₀ r.ensures.counts_after x (calls_in a.count a.kept.now) k.result.answer (calls_in k.result.count k.new.words)
+          (k.ensures.keeps g g₀ x (accepted_valid b r.result.answer g g₀ r.ensures.counts_after));
+      by_index_2 = k.ensures.by_index;
+    }

@@ -5,7 +5,6 @@ use Rattle.keyvalues.specs.View.{answer_of}
 use Rattle.keptcalls.specs.View.{binding_of}
 use Rattle.keybind.specs.View.{map_with}
 use Rattle.keymap.proofs.Numbers.{numbered, from_start, not_read, is_read}
-use borrow.Author.Rules.{rules}
 use Rattle.keymap.proofs.coded.bind.Goals as goal
 
 -- src/coded.rt:89:9

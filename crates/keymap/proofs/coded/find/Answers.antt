@@ -1,6 +1,5 @@
 -- The number is that of what the search over the words gives, which is the rules' find.
 use mathlib.Core.Path.{ap, ◌∙◌}
-use borrow.Author.Rules.{rules}
 use Rattle.keymap.specs.Codes.{find_code}
 use Rattle.keymap.proofs.coded.find.Goals as goal
 

@@ -2,7 +2,6 @@
 use Rattle.keyparts.specs.View.{graph_in}
 use Rattle.keytables.specs.View.{tables_in}
 use Rattle.keymachine.specs.View.{machine_by, press_of}
-use borrow.Author.Rules.{rules}
 use Rattle.keymap.proofs.Numbers.{numbered}
 use Rattle.keymap.proofs.coded.input_key.Goals as goal
 

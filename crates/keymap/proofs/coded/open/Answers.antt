@@ -7,7 +7,6 @@ use Rattle.keptcalls.specs.View.{machine_with}
 use Rattle.keymachine.specs.View.{machine_of}
 use Rattle.mapfile.specs.View.{map_of}
 use Rattle.keymap.proofs.Numbers.{refused, accepted}
-use borrow.Author.Rules.{rules}
 use Rattle.keymap.proofs.coded.open.Goals as goal
 
 -- src/coded.rt:64:13

@@ -1,6 +1,5 @@
 -- The live state is the call's, and the number is its answer's.
 use Rattle.keymachine.specs.View.{machine_by, pop_of}
-use borrow.Author.Rules.{rules}
 use Rattle.keymap.proofs.Numbers.{numbered}
 use Rattle.keymap.proofs.coded.pop.Goals as goal
 

@@ -1,7 +1,6 @@
 -- The live state is the call's, and the number is its answer's.
 use Rattle.keyvalues.specs.View.{answer_of}
 use Rattle.keymachine.specs.View.{machine_by}
-use borrow.Author.Rules.{rules}
 use Rattle.keymap.proofs.Numbers.{numbered}
 use Rattle.keymap.proofs.coded.repeat.Goals as goal
 

@@ -2,7 +2,6 @@
 use mathlib.Core.Path.{◌∙◌}
 use Rattle.keyvalues.specs.View.{answer_of}
 use Rattle.keymachine.specs.View.{machine_by}
-use borrow.Author.Rules.{rules}
 use Rattle.keymap.proofs.Numbers.{numbered, too_many, few_enough}
 use Rattle.keymap.proofs.coded.repeat_over.Goals as goal
 

@@ -2,7 +2,6 @@
 use Rattle.keyvalues.specs.View.{answer_of}
 use Rattle.keytables.specs.View.{tables_in}
 use Rattle.keymachine.specs.View.{machine_by}
-use borrow.Author.Rules.{rules}
 use Rattle.keymap.proofs.Numbers.{numbered}
 use Rattle.keymap.proofs.coded.reset_mode.Goals as goal
 

@@ -2,7 +2,6 @@
 use mathlib.Core.Path.{sym, ap}
 use Rattle.keyparts.specs.View.{found_of}
 use Rattle.keymap.specs.Codes.{find_code}
-use borrow.Author.Rules.{rules}
 use Rattle.keymap.proofs.codes.found_code.Goals as goal
 
 pub returns-in-Refused : goal.returns-in-Refused

@@ -2,7 +2,6 @@
 use mathlib.Core.Path.{sym, ap}
 use Rattle.keymachine.specs.View.{press_of}
 use Rattle.keymap.specs.Codes.{answer_code}
-use borrow.Author.Rules.{rules}
 use Rattle.keymap.proofs.codes.pressed_code.Goals as goal
 
 pub returns-in-Accepted : goal.returns-in-Accepted

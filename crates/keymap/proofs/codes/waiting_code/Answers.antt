@@ -2,7 +2,6 @@
 use mathlib.Core.Path.{sym, ap}
 use Rattle.keymachine.specs.View.{pop_of}
 use Rattle.keymap.specs.Codes.{answer_code}
-use borrow.Author.Rules.{rules}
 use Rattle.keymap.proofs.codes.waiting_code.Goals as goal
 
 pub returns-in-Pair : goal.returns-in-Pair

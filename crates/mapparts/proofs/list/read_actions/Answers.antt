@@ -21,5 +21,8 @@ pub loop-i-preserved : goal.loop-i-preserved
 loop-i-preserved c = (omega arith, simp length-set (omega arith), kept c.loop-i.i c.loop-i.actions _ c.loop-i.invariant.2 c.number-a.ensures (omega arith) (omega arith))
 
 pub returns : goal.returns
-returns c = record { count_bound = (c.up_to-n.ensures.value_le_most, c.loop-i.invariant.1); reads = as_made (fit_take 0 c.up_to-n.result.value c.loop-i.actions (omega arith))
-      (list_read most_actions (λ n. take n c.loop-i.actions) c.loop-i.i c.up_to-n.ensures.reads c.loop-i.invariant.2 (omega arith) (omega arith)) }
+returns c = record {
+  count_bound = (c.up_to-n.ensures.value_le_most, c.loop-i.invariant.1);
+  reads = as_made (fit_take 0 c.up_to-n.result.value c.loop-i.actions (omega arith))
+      (list_read most_actions (λ n. take n c.loop-i.actions) c.loop-i.i c.up_to-n.ensures.reads c.loop-i.invariant.2 (omega arith) (omega arith));
+}
