@@ -1,11 +1,14 @@
 // Plays the list of calls of standard input and prints the answers.
 #![tactic(auto)]
 
-use libc::STDIN_FILENO;
+use std::io;
+use std::io::{BufWriter, Write};
 
-fn main() {
+fn main(rt: HostRuntime) -> io::Result<()> {
     // one byte more than an input may have, so that a longer one shows
     let mut input = [0u8; 65537];
-    let n = io::read_full(STDIN_FILENO, &mut input);
-    playcalls::answer(&input[..n]);
+    let n = playback::read_full(&mut rt.stdin(), &mut input)?;
+    let mut out = BufWriter::new(rt.alloc(), rt.stdout())?;
+    playcalls::answer(&mut out, &input[..n])?;
+    out.flush()
 }

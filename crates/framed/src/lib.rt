@@ -5,9 +5,11 @@
 ghost use Rattle.std.specs.Prelude.{◌<◌, length};
 ghost use Rattle.framed.specs.Frames.{FrameFits};
 
-use libc::STDOUT_FILENO;
 use mapfile::number;
 use mapfile::number::Read;
+pub use playback::read_full;
+use std::io;
+use std::io::Write;
 
 // The program whose inputs they are.
 #[derive(Clone, Copy)]
@@ -60,25 +62,26 @@ fn frame_at(s: &[u8], at: usize) -> Frame
     }
 }
 
-fn answer(input: &[u8], player: Player) {
+fn answer<W: Write>(out: &mut W, input: &[u8], player: Player) -> io::Result<()> {
     match player {
-        Player::Keyplay => playback::answer(input),
-        Player::Callplay => playcalls::answer(input),
+        Player::Keyplay => playback::answer(out, input),
+        Player::Callplay => playcalls::answer(out, input),
     }
 }
 
 // A line `--` stands before each answer; a frame that is not whole ends the play.
-pub fn cases(s: &[u8], player: Player) {
+pub fn cases<W: Write>(out: &mut W, s: &[u8], player: Player) -> io::Result<()> {
     let mut at = 0usize;
     while at < s.len() {
         let f = frame_at(s, at);
         match f {
-            Frame::Broken => return,
+            Frame::Broken => return Ok(()),
             Frame::Whole { start, end } => {
-                io::write_all(STDOUT_FILENO, b"--\n");
-                answer(&s[start..end], player);
+                out.write_all(b"--\n")?;
+                answer(out, &s[start..end], player)?;
                 at = end;
             }
         }
     }
+    Ok(())
 }

@@ -10,6 +10,8 @@ use keymachine::context::{Context, Override};
 use keymachine::live::Live;
 use keymachine::machine::ModalMachine;
 use mapparts::place::FilePlace;
+use std::io;
+use std::io::Write;
 
 // The machine, and the place after the call.
 #[derive(Clone, Copy)]
@@ -24,43 +26,44 @@ struct OverRead {
     place: FilePlace,
 }
 
-fn end_line(machine: ModalMachine) {
-    print::mode(machine.mode());
+fn end_line<W: Write>(out: &mut W, machine: ModalMachine) -> io::Result<()> {
+    print::mode(out, machine.mode())
 }
 
 // A call with a number that has no value of its type.
-fn unknown(machine: ModalMachine, place: FilePlace) -> Played {
-    print::refused(1);
-    end_line(machine);
-    Played {
+fn unknown<W: Write>(out: &mut W, machine: ModalMachine, place: FilePlace) -> io::Result<Played> {
+    print::refused(out, 1)?;
+    end_line(out, machine)?;
+    Ok(Played {
         machine: machine,
         place: place,
-    }
+    })
 }
 
 // The machine that a binding call leaves, after the line of its answer.
-fn bound(r: MapResult, live: Live, place: FilePlace) -> Played {
+fn bound<W: Write>(out: &mut W, r: MapResult, live: Live, place: FilePlace) -> io::Result<Played> {
     let answer = r.answer;
     let map = r.map;
     let left = ModalMachine {
         map: map,
         live: live,
     };
-    print::settled(answer);
-    end_line(left);
-    Played {
+    print::settled(out, answer)?;
+    end_line(out, left)?;
+    Ok(Played {
         machine: left,
         place: place,
-    }
+    })
 }
 
 // Mode, path and step.
-fn play_map(
+fn play_map<W: Write>(
+    out: &mut W,
     s: &[u8],
     kept: &mut [u64; BindingCall::ALL_WORDS],
     from: FilePlace,
     machine: ModalMachine,
-) -> Played
+) -> io::Result<Played>
     requires { length kept.old ≡ 18432 }
     ensures { length kept.new ≡ 18432 }
 {
@@ -71,10 +74,10 @@ fn play_map(
     let step = parts::read_step(s, b);
     let c = step.place;
     if c.refusal != 0 {
-        return Played {
+        return Ok(Played {
             machine: machine,
             place: c,
-        };
+        });
     }
     if path.known {
         if step.known {
@@ -83,18 +86,19 @@ fn play_map(
             let before = machine.map;
             let live = machine.live;
             let r = map::add_mapping(kept, before, mode.value, to, does);
-            return bound(r, live, c);
+            return bound(out, r, live, c);
         }
     }
-    unknown(machine, c)
+    unknown(out, machine, c)
 }
 
-fn play_prefix(
+fn play_prefix<W: Write>(
+    out: &mut W,
     s: &[u8],
     kept: &mut [u64; BindingCall::ALL_WORDS],
     from: FilePlace,
     machine: ModalMachine,
-) -> Played
+) -> io::Result<Played>
     requires { length kept.old ≡ 18432 }
     ensures { length kept.new ≡ 18432 }
 {
@@ -103,10 +107,10 @@ fn play_prefix(
     let path = parts::read_path(s, a);
     let c = path.place;
     if c.refusal != 0 {
-        return Played {
+        return Ok(Played {
             machine: machine,
             place: c,
-        };
+        });
     }
     if path.known {
         let to = path.path;
@@ -114,17 +118,18 @@ fn play_prefix(
         let before = machine.map;
         let live = machine.live;
         let r = map::add_prefix(kept, before, mode.value, to, false, none);
-        return bound(r, live, c);
+        return bound(out, r, live, c);
     }
-    unknown(machine, c)
+    unknown(out, machine, c)
 }
 
-fn play_prefix_step(
+fn play_prefix_step<W: Write>(
+    out: &mut W,
     s: &[u8],
     kept: &mut [u64; BindingCall::ALL_WORDS],
     from: FilePlace,
     machine: ModalMachine,
-) -> Played
+) -> io::Result<Played>
     requires { length kept.old ≡ 18432 }
     ensures { length kept.new ≡ 18432 }
 {
@@ -135,10 +140,10 @@ fn play_prefix_step(
     let step = parts::read_step(s, b);
     let c = step.place;
     if c.refusal != 0 {
-        return Played {
+        return Ok(Played {
             machine: machine,
             place: c,
-        };
+        });
     }
     if path.known {
         if step.known {
@@ -147,45 +152,50 @@ fn play_prefix_step(
             let before = machine.map;
             let live = machine.live;
             let r = map::add_prefix(kept, before, mode.value, to, true, does);
-            return bound(r, live, c);
+            return bound(out, r, live, c);
         }
     }
-    unknown(machine, c)
+    unknown(out, machine, c)
 }
 
 // Key and budget.
-fn play_key(s: &[u8], from: FilePlace, machine: ModalMachine) -> Played {
+fn play_key<W: Write>(
+    out: &mut W,
+    s: &[u8],
+    from: FilePlace,
+    machine: ModalMachine,
+) -> io::Result<Played> {
     let key = from.number(s);
     let a = key.place;
     let budget = a.number(s);
     let c = budget.place;
     if c.refusal != 0 {
-        return Played {
+        return Ok(Played {
             machine: machine,
             place: c,
-        };
+        });
     }
     let r = machine.input_key(key.value, budget.value);
     let left = r.machine;
     let answer = r.answer;
-    print::pressed(answer);
-    end_line(left);
-    Played {
+    print::pressed(out, answer)?;
+    end_line(out, left)?;
+    Ok(Played {
         machine: left,
         place: c,
-    }
+    })
 }
 
-fn play_pop(from: FilePlace, machine: ModalMachine) -> Played {
+fn play_pop<W: Write>(out: &mut W, from: FilePlace, machine: ModalMachine) -> io::Result<Played> {
     let r = machine.pop();
     let left = r.machine;
     let answer = r.answer;
-    print::waiting(answer);
-    end_line(left);
-    Played {
+    print::waiting(out, answer)?;
+    end_line(out, left)?;
+    Ok(Played {
         machine: left,
         place: from,
-    }
+    })
 }
 
 // 0, or 1 with a count and a mark; any other number is a malformed call.
@@ -220,154 +230,171 @@ fn read_override(s: &[u8], from: FilePlace) -> OverRead {
     }
 }
 
-fn play_repeat(s: &[u8], from: FilePlace, machine: ModalMachine) -> Played {
+fn play_repeat<W: Write>(
+    out: &mut W,
+    s: &[u8],
+    from: FilePlace,
+    machine: ModalMachine,
+) -> io::Result<Played> {
     let sequence = from.number(s);
     let a = sequence.place;
     let over = read_override(s, a);
     let c = over.place;
     if c.refusal != 0 {
-        return Played {
+        return Ok(Played {
             machine: machine,
             place: c,
-        };
+        });
     }
     let by = over.over;
     let r = machine.repeat(sequence.value, by);
     let left = r.machine;
     let answer = r.answer;
-    print::settled(answer);
-    end_line(left);
-    Played {
+    print::settled(out, answer)?;
+    end_line(out, left)?;
+    Ok(Played {
         machine: left,
         place: c,
-    }
+    })
 }
 
-fn play_reset(from: FilePlace, machine: ModalMachine) -> Played {
+fn play_reset<W: Write>(out: &mut W, from: FilePlace, machine: ModalMachine) -> io::Result<Played> {
     let r = machine.reset_mode();
     let left = r.machine;
     let answer = r.answer;
-    print::settled(answer);
-    end_line(left);
-    Played {
+    print::settled(out, answer)?;
+    end_line(out, left)?;
+    Ok(Played {
         machine: left,
         place: from,
-    }
+    })
 }
 
 // Mode and action.
-fn play_find(s: &[u8], from: FilePlace, machine: ModalMachine) -> Played {
+fn play_find<W: Write>(
+    out: &mut W,
+    s: &[u8],
+    from: FilePlace,
+    machine: ModalMachine,
+) -> io::Result<Played> {
     let mode = from.number(s);
     let a = mode.place;
     let action = a.number(s);
     let c = action.place;
     if c.refusal != 0 {
-        return Played {
+        return Ok(Played {
             machine: machine,
             place: c,
-        };
+        });
     }
     let found = machine.find(mode.value, action.value);
-    print::found(found);
-    end_line(machine);
-    Played {
+    print::found(out, found)?;
+    end_line(out, machine)?;
+    Ok(Played {
         machine: machine,
         place: c,
-    }
+    })
 }
 
-fn play_hint(from: FilePlace, machine: ModalMachine) -> Played {
-    print::free(machine.free_nodes());
-    end_line(machine);
-    Played {
+fn play_hint<W: Write>(out: &mut W, from: FilePlace, machine: ModalMachine) -> io::Result<Played> {
+    print::free(out, machine.free_nodes())?;
+    end_line(out, machine)?;
+    Ok(Played {
         machine: machine,
         place: from,
-    }
+    })
 }
 
 // The room: how many bytes are lent to the writer.
-fn play_write(
+fn play_write<W: Write>(
+    out: &mut W,
     s: &[u8],
     kept: &[u64; BindingCall::ALL_WORDS],
     from: FilePlace,
     machine: ModalMachine,
-) -> Played
+) -> io::Result<Played>
     requires { length kept.now ≡ 18432 }
 {
     let room = from.number(s);
     let c = room.place;
     if c.refusal != 0 {
-        return Played {
+        return Ok(Played {
             machine: machine,
             place: c,
-        };
+        });
     }
     let tables = machine.map.tables;
-    file::print_file(kept, machine.map.kept, tables, room.value);
-    end_line(machine);
-    Played {
+    file::print_file(out, kept, machine.map.kept, tables, room.value)?;
+    end_line(out, machine)?;
+    Ok(Played {
         machine: machine,
         place: c,
-    }
+    })
 }
 
-fn play_call(
+fn play_call<W: Write>(
+    out: &mut W,
     s: &[u8],
     kept: &mut [u64; BindingCall::ALL_WORDS],
     from: FilePlace,
     machine: ModalMachine,
-) -> Played
+) -> io::Result<Played>
     requires { length kept.old ≡ 18432 }
     ensures { length kept.new ≡ 18432 }
 {
     let kind = from.number(s);
     let c = kind.place;
     if c.refusal != 0 {
-        return Played {
+        return Ok(Played {
             machine: machine,
             place: c,
-        };
+        });
     }
     let which = kind.value;
     match which {
-        0 => play_map(s, kept, c, machine),
-        1 => play_prefix(s, kept, c, machine),
-        2 => play_prefix_step(s, kept, c, machine),
-        3 => play_key(s, c, machine),
-        4 => play_pop(c, machine),
-        5 => play_repeat(s, c, machine),
-        6 => play_reset(c, machine),
-        7 => play_find(s, c, machine),
-        8 => play_hint(c, machine),
-        9 => play_write(s, kept, c, machine),
-        _ => Played {
+        0 => play_map(out, s, kept, c, machine),
+        1 => play_prefix(out, s, kept, c, machine),
+        2 => play_prefix_step(out, s, kept, c, machine),
+        3 => play_key(out, s, c, machine),
+        4 => play_pop(out, c, machine),
+        5 => play_repeat(out, s, c, machine),
+        6 => play_reset(out, c, machine),
+        7 => play_find(out, s, c, machine),
+        8 => play_hint(out, c, machine),
+        9 => play_write(out, s, kept, c, machine),
+        _ => Ok(Played {
             machine: machine,
             place: FilePlace {
                 at: c.at,
                 refusal: 9,
             },
-        },
+        }),
     }
 }
 
 // To the end of the input, or to the first call that is malformed.
-pub fn play_calls(s: &[u8], from: FilePlace, start: ModalMachine) {
+pub fn play_calls<W: Write>(
+    out: &mut W,
+    s: &[u8],
+    from: FilePlace,
+    start: ModalMachine,
+) -> io::Result<()> {
     let mut kept = [0u64; BindingCall::ALL_WORDS];
     let mut machine = start;
     let mut at = from;
     let mut left = s.len();
     while 0 < left {
         if s.len() <= at.at {
-            return;
+            return Ok(());
         }
-        let r = play_call(s, &mut kept, at, machine);
+        let r = play_call(out, s, &mut kept, at, machine)?;
         let c = r.place;
         if c.refusal != 0 {
-            print::refused_line(c.refusal);
-            return;
+            return print::refused_line(out, c.refusal);
         }
         machine = r.machine;
         at = c;
         left = left - 1;
     }
+    Ok(())
 }

@@ -11,17 +11,18 @@ mod tables;
 use keygraph::answer::Answer;
 use keymachine::machine::ModalMachine;
 use mapparts::place::FilePlace;
+use std::io;
+use std::io::Write;
 
 // The bytes of an input at most.
 const MOST_INPUT: usize = 65536;
 
-fn play(s: &[u8]) {
+fn play<W: Write>(out: &mut W, s: &[u8]) -> io::Result<()> {
     let start = FilePlace { at: 0, refusal: 0 };
     let t = tables::read_tables(s, start);
     let c = t.place;
     if c.refusal != 0 {
-        print::refused_line(c.refusal);
-        return;
+        return print::refused_line(out, c.refusal);
     }
     let given = t.tables;
     let fresh = ModalMachine::fresh();
@@ -29,16 +30,15 @@ fn play(s: &[u8]) {
     let answer = opened.answer;
     let machine = opened.machine;
     match answer {
-        Answer::Refused(n) => print::refused_line(n),
-        Answer::Accepted => calls::play_calls(s, c, machine),
+        Answer::Refused(n) => print::refused_line(out, n),
+        Answer::Accepted => calls::play_calls(out, s, c, machine),
     }
 }
 
 // An input of at most `MOST_INPUT` bytes; a longer one is refused with 9.
-pub fn answer(s: &[u8]) {
+pub fn answer<W: Write>(out: &mut W, s: &[u8]) -> io::Result<()> {
     if MOST_INPUT < s.len() {
-        print::refused_line(9);
-        return;
+        return print::refused_line(out, 9);
     }
-    play(s);
+    play(out, s)
 }

@@ -3,93 +3,88 @@ use keygraph::answer::Answer;
 use keygraph::find::Found;
 use keymachine::live::{Pressed, Waiting};
 use keymachine::pair::Pair;
-use libc::STDOUT_FILENO;
+use std::io;
+use std::io::Write;
 
-pub fn number(n: u16) {
-    io::print_decimal(STDOUT_FILENO, n as u64);
+pub fn number<W: Write>(out: &mut W, n: u16) -> io::Result<()> {
+    write!(out, "{n}")
 }
 
-pub fn refused(n: u16) {
-    io::write_all(STDOUT_FILENO, b"refused ");
-    number(n);
+pub fn refused<W: Write>(out: &mut W, n: u16) -> io::Result<()> {
+    out.write_all(b"refused ")?;
+    number(out, n)
 }
 
 // A refusal that ends the play.
-pub fn refused_line(n: u16) {
-    refused(n);
-    io::write_all(STDOUT_FILENO, b"\n");
+pub fn refused_line<W: Write>(out: &mut W, n: u16) -> io::Result<()> {
+    refused(out, n)?;
+    out.write_all(b"\n")
 }
 
 // The end of each answer's line.
-pub fn mode(m: u16) {
-    io::write_all(STDOUT_FILENO, b" mode ");
-    number(m);
-    io::write_all(STDOUT_FILENO, b"\n");
+pub fn mode<W: Write>(out: &mut W, m: u16) -> io::Result<()> {
+    out.write_all(b" mode ")?;
+    number(out, m)?;
+    out.write_all(b"\n")
 }
 
-pub fn settled(answer: Answer) {
+pub fn settled<W: Write>(out: &mut W, answer: Answer) -> io::Result<()> {
     match answer {
-        Answer::Accepted => {
-            io::write_all(STDOUT_FILENO, b"ok");
-        }
-        Answer::Refused(n) => refused(n),
+        Answer::Accepted => out.write_all(b"ok"),
+        Answer::Refused(n) => refused(out, n),
     }
 }
 
-fn rounds(n: u16) {
-    io::write_all(STDOUT_FILENO, b" rounds ");
-    number(n);
+fn rounds<W: Write>(out: &mut W, n: u16) -> io::Result<()> {
+    out.write_all(b" rounds ")?;
+    number(out, n)
 }
 
-pub fn pressed(answer: Pressed) {
+pub fn pressed<W: Write>(out: &mut W, answer: Pressed) -> io::Result<()> {
     match answer {
         Pressed::Accepted { rounds: made } => {
-            io::write_all(STDOUT_FILENO, b"ok");
-            rounds(made);
+            out.write_all(b"ok")?;
+            rounds(out, made)
         }
         Pressed::Refused {
             number: n,
             rounds: made,
         } => {
-            refused(n);
-            rounds(made);
+            refused(out, n)?;
+            rounds(out, made)
         }
     }
 }
 
-fn pair(p: Pair) {
+fn pair<W: Write>(out: &mut W, p: Pair) -> io::Result<()> {
     let x = p.context;
-    io::write_all(STDOUT_FILENO, b"pair ");
-    number(p.action);
-    io::write_all(STDOUT_FILENO, b" ");
-    number(x.count);
-    io::write_all(STDOUT_FILENO, b" ");
-    number(x.mark);
+    out.write_all(b"pair ")?;
+    number(out, p.action)?;
+    out.write_all(b" ")?;
+    number(out, x.count)?;
+    out.write_all(b" ")?;
+    number(out, x.mark)
 }
 
-pub fn waiting(answer: Waiting) {
+pub fn waiting<W: Write>(out: &mut W, answer: Waiting) -> io::Result<()> {
     match answer {
-        Waiting::Pair(p) => pair(p),
-        Waiting::Nothing => {
-            io::write_all(STDOUT_FILENO, b"nothing");
-        }
+        Waiting::Pair(p) => pair(out, p),
+        Waiting::Nothing => out.write_all(b"nothing"),
     }
 }
 
-pub fn found(answer: Found) {
+pub fn found<W: Write>(out: &mut W, answer: Found) -> io::Result<()> {
     match answer {
-        Found::Refused(n) => refused(n),
+        Found::Refused(n) => refused(out, n),
         Found::At(n) => {
-            io::write_all(STDOUT_FILENO, b"node ");
-            number(n);
+            out.write_all(b"node ")?;
+            number(out, n)
         }
-        Found::Nothing => {
-            io::write_all(STDOUT_FILENO, b"none");
-        }
+        Found::Nothing => out.write_all(b"none"),
     }
 }
 
-pub fn free(n: u16) {
-    io::write_all(STDOUT_FILENO, b"free ");
-    number(n);
+pub fn free<W: Write>(out: &mut W, n: u16) -> io::Result<()> {
+    out.write_all(b"free ")?;
+    number(out, n)
 }

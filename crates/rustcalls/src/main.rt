@@ -3,10 +3,13 @@
 #![tactic(auto)]
 
 use framed::Player;
-use libc::STDIN_FILENO;
+use std::io;
+use std::io::{BufWriter, Write};
 
-fn main() {
+fn main(rt: HostRuntime) -> io::Result<()> {
     let mut input = [0u8; 400000];
-    let n = io::read_full(STDIN_FILENO, &mut input);
-    framed::cases(&input[..n], Player::Callplay);
+    let n = framed::read_full(&mut rt.stdin(), &mut input)?;
+    let mut out = BufWriter::new(rt.alloc(), rt.stdout())?;
+    framed::cases(&mut out, &input[..n], Player::Callplay)?;
+    out.flush()
 }
