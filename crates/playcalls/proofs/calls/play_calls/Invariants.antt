@@ -2,11 +2,10 @@
 use Prim.Native.Nat.{◌≤◌}
 use mathlib.Core.Path.{◌≡◌}
 use lib.ListN.{length}
-use borrow.Author.Rules.{rules}
 use Rattle.playcalls.proofs.calls.play_calls.Given as goal
 
 abbrev pub invariant-loop-left : goal.invariant-loop-left
-invariant-loop-left l = (length l.kept ≡ 18432) × (l.left ≤ length l.s)
+invariant-loop-left g l = (length l.kept ≡ 18432) × (l.left ≤ length l.s)
 
 abbrev pub decreases-loop-left : goal.decreases-loop-left
-decreases-loop-left l = l.left
+decreases-loop-left g l = l.left

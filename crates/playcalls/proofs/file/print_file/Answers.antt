@@ -4,9 +4,8 @@ use native.Mathlib.Omega.{arith}
 use mathlib.Core.Path.{sym}
 use lib.ListN.{replicate, length-replicate}
 use lib.Seq.{length-take-le}
-use borrow.Author.Rules.{rules}
 use Rattle.playcalls.proofs.file.print_file.Goals as goal
 
 pub slice_bounds-print_written-end : goal.slice_bounds-print_written-end
-slice_bounds-print_written-end c =
+slice_bounds-print_written-end g c =
     sym (length-take-le c.args.room (replicate 65535 0) (omega (arith, length-replicate {A = ℕ} 65535 0)))

@@ -7,7 +7,6 @@ use mathlib.Core.List.{List}
 use lib.ListN.{length}
 use lib.Seq.{length-take-le}
 use borrow.Author.Tests.{le-leb, lt-leb}
-use borrow.Author.Rules.{rules}
 use Rattle.rules.specs.Values.{Binding}
 use Rattle.rules.specs.Tables.{Tables}
 use Rattle.rules.specs.Run.{code_of}
@@ -27,7 +26,7 @@ file-fits : (t : Tables) (xs : List Binding) (lent out : List ℕ) (r : ℕ) →
 file-fits t xs lent out r e h = omega (arith, h, ap (λ (a : ℕ × List ℕ). a.0 / 32) e, code_fits t xs (length lent))
 
 pub slice_bounds-print_bytes-end : goal.slice_bounds-print_bytes-end
-slice_bounds-print_bytes-end c = (let h : c.write_map-r.result / 32 ≤ length c.write_map-r.new.output = file-fits _ _ _ _ _ c.write_map-r.ensures c.write_map-r.auto.output in h)
+slice_bounds-print_bytes-end g c = file-fits _ _ _ _ _ c.write_map-r.ensures c.write_map-r.auto.output
 
 pub slice_bounds-print_bytes-end-2 : goal.slice_bounds-print_bytes-end-2
-slice_bounds-print_bytes-end-2 c = sym (length-take-le _ _ (let h : c.write_map-r.result / 32 ≤ length c.write_map-r.new.output = file-fits _ _ _ _ _ c.write_map-r.ensures c.write_map-r.auto.output in h))
+slice_bounds-print_bytes-end-2 g c = sym (length-take-le _ _ (file-fits _ _ _ _ _ c.write_map-r.ensures c.write_map-r.auto.output))
