@@ -15,5 +15,5 @@ returns-then-idle c = let a = c.args in let m = c.marked-t in let w = a.what in 
 
 pub returns : goal.returns
 unfolding step_of
-returns c = let a = c.args in let m = c.marked-t in let w = a.what in let t = tables_in a.tables.now in
-    record { queue_len = c.give_goto.ensures.queue_len; tr_after = λ g tr. step_goes g (step_of w) w.count w.actions (state_of a.s t a.queue.now a.sequences.now tr) (state_of m.result t a.queue.now a.sequences.now tr) c.idle.result refl (m.ensures t a.queue.now a.sequences.now tr) c.idle.ensures c.if-idle.false (let h : length c.args.what.actions ≡ 4 = search rules in h) _ (c.give_goto.ensures.tr_after g tr) }
+returns c = let a = c.args in let m = c.marked-t in let w = a.what in let t = tables_in a.tables.now in let long : length w.actions ≡ 4 = search rules in
+    record { queue_len = c.give_goto.ensures.queue_len; tr_after = λ g tr. step_goes g (step_of w) w.count w.actions (state_of a.s t a.queue.now a.sequences.now tr) (state_of m.result t a.queue.now a.sequences.now tr) c.idle.result refl (m.ensures t a.queue.now a.sequences.now tr) c.idle.ensures c.if-idle.false long _ (c.give_goto.ensures.tr_after g tr) }

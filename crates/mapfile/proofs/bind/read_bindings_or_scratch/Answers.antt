@@ -23,7 +23,7 @@ returns-in-Refused c =
     let s = c.args.s.now in
     let L = c.loop-left in
     let k = c.read_binding_or_scratch-r in
-    record { words_len = k.ensures.words_len; by_index = λ x. no_more k.result.answer L.left (let L = c.loop-left in machine_with (graph_in L.words L.k) (calls_in L.count L.kept) x) (let k = c.read_binding_or_scratch-r in machine_with (graph_in k.new.words k.result.counts) (calls_in k.result.kept k.new.kept) x) (drop L.at s) (drop k.result.at s) _ c.loop-left-test.true c.in-Refused.is (k.ensures.by_index x) ∙ L.invariant.3 x }
+    record { words_len = k.ensures.words_len; by_index = λ x. no_more k.result.answer L.left (machine_with (graph_in L.words L.k) (calls_in L.count L.kept) x) (machine_with (graph_in k.new.words k.result.counts) (calls_in k.result.kept k.new.kept) x) (drop L.at s) (drop k.result.at s) _ c.loop-left-test.true c.in-Refused.is (k.ensures.by_index x) ∙ L.invariant.3 x }
 
 pub overflow_sub-left : goal.overflow_sub-left
 overflow_sub-left c = omega arith
@@ -36,7 +36,7 @@ loop-left-preserved c =
     let s = c.args.s.now in
     let L = c.loop-left in
     let k = c.read_binding_or_scratch-r in
-    (omega arith, k.ensures.words_len.0, k.ensures.words_len.1, λ x. one_more k.result.answer L.left (let L = c.loop-left in machine_with (graph_in L.words L.k) (calls_in L.count L.kept) x) (let k = c.read_binding_or_scratch-r in machine_with (graph_in k.new.words k.result.counts) (calls_in k.result.kept k.new.kept) x) (drop L.at s) (drop k.result.at s) c.loop-left-test.true c.in-Accepted.is (k.ensures.by_index x) ∙ L.invariant.3 x)
+    (omega arith, k.ensures.words_len.0, k.ensures.words_len.1, λ x. one_more k.result.answer L.left (machine_with (graph_in L.words L.k) (calls_in L.count L.kept) x) (machine_with (graph_in k.new.words k.result.counts) (calls_in k.result.kept k.new.kept) x) (drop L.at s) (drop k.result.at s) c.loop-left-test.true c.in-Accepted.is (k.ensures.by_index x) ∙ L.invariant.3 x)
 
 pub returns : goal.returns
 returns c =

@@ -27,10 +27,34 @@ returns-then-b-ne0 c =
 
 pub returns-in-Refused : goal.returns-in-Refused
 returns-in-Refused c =
+    let s = c.args.s.now in
+    let t : Tables = tables_in c.read_tables-t.result.tables.words in
+    let n = c.number-n.result.value in
+    let b = c.number-n.result.place in
+    let f = c.fresh-graph in
     let k = c.read_bindings_or_scratch-r in
-    record { kept_len = k.ensures.words_len.1; result_after = told_of _ _ (let k = c.read_bindings_or_scratch-r in machine_with (graph_in k.new.words k.result.counts) (calls_in k.result.kept k.new.kept) (fresh graph_kind (tables_in c.read_tables-t.result.tables.words)).state) _ _ c.refused-in-Refused.ensures.answer_value c.in-Refused.is (let h : result_by c.at_end-answer.result (let k = c.read_bindings_or_scratch-r in machine_with (graph_in k.new.words k.result.counts) (calls_in k.result.kept k.new.kept) (fresh graph_kind (tables_in c.read_tables-t.result.tables.words)).state) ≡ read_map c.args.s.now = let s = c.args.s.now in let tables = c.read_tables-t in let t : Tables = tables_in tables.result.tables.words in let number = c.number-n in let n = number.result.value in let b = number.result.place in let f = c.fresh-graph in let k = c.read_bindings_or_scratch-r in map_ended s (come_from s read_machine 0 (file tables.ensures number.ensures (comes_at s b (read_bindings n (fresh graph_kind t)) c.if-b-ne0.false (k.ensures.by_index (fresh graph_kind t).state ∙ from_fresh n t (graph_in f.result.words f.result.counts) (drop b.at s) f.ensures)))) (c.at_end-answer.ensures (let k = c.read_bindings_or_scratch-r in machine_with (graph_in k.new.words k.result.counts) (calls_in k.result.kept k.new.kept) (fresh graph_kind (tables_in c.read_tables-t.result.tables.words)).state)) in h); by_index = λ n e. c.refused-in-Refused.ensures.by_index k.new.kept }
+    let machine : Machine graph_kind = machine_with (graph_in k.new.words k.result.counts) (calls_in k.result.kept k.new.kept) (fresh graph_kind t).state in
+    let read : result_by c.at_end-answer.result machine ≡ read_map s
+    = map_ended s
+    (come_from s read_machine 0
+    (file c.read_tables-t.ensures c.number-n.ensures
+    (comes_at s b (read_bindings n (fresh graph_kind t)) c.if-b-ne0.false (k.ensures.by_index (fresh graph_kind t).state ∙ from_fresh n t (graph_in f.result.words f.result.counts) (drop b.at s) f.ensures))))
+    (c.at_end-answer.ensures machine) in
+    record { kept_len = k.ensures.words_len.1; result_after = told_of _ _ machine _ _ c.refused-in-Refused.ensures.answer_value c.in-Refused.is read; by_index = λ n e. c.refused-in-Refused.ensures.by_index k.new.kept }
 
 pub returns : goal.returns
 returns c =
+    let s = c.args.s.now in
+    let t : Tables = tables_in c.read_tables-t.result.tables.words in
+    let n = c.number-n.result.value in
+    let b = c.number-n.result.place in
+    let f = c.fresh-graph in
     let k = c.read_bindings_or_scratch-r in
-    record { kept_len = k.ensures.words_len.1; result_after = (let h : result_by c.at_end-answer.result (let k = c.read_bindings_or_scratch-r in machine_with (graph_in k.new.words k.result.counts) (calls_in k.result.kept k.new.kept) (fresh graph_kind (tables_in c.read_tables-t.result.tables.words)).state) ≡ read_map c.args.s.now = let s = c.args.s.now in let tables = c.read_tables-t in let t : Tables = tables_in tables.result.tables.words in let number = c.number-n in let n = number.result.value in let b = number.result.place in let f = c.fresh-graph in let k = c.read_bindings_or_scratch-r in map_ended s (come_from s read_machine 0 (file tables.ensures number.ensures (comes_at s b (read_bindings n (fresh graph_kind t)) c.if-b-ne0.false (k.ensures.by_index (fresh graph_kind t).state ∙ from_fresh n t (graph_in f.result.words f.result.counts) (drop b.at s) f.ensures)))) (c.at_end-answer.ensures (let k = c.read_bindings_or_scratch-r in machine_with (graph_in k.new.words k.result.counts) (calls_in k.result.kept k.new.kept) (fresh graph_kind (tables_in c.read_tables-t.result.tables.words)).state)) in h); by_index = λ n e. absurd (not_refused _ n c.in-Accepted.is e) }
+    let machine : Machine graph_kind = machine_with (graph_in k.new.words k.result.counts) (calls_in k.result.kept k.new.kept) (fresh graph_kind t).state in
+    let read : result_by c.at_end-answer.result machine ≡ read_map s
+    = map_ended s
+    (come_from s read_machine 0
+    (file c.read_tables-t.ensures c.number-n.ensures
+    (comes_at s b (read_bindings n (fresh graph_kind t)) c.if-b-ne0.false (k.ensures.by_index (fresh graph_kind t).state ∙ from_fresh n t (graph_in f.result.words f.result.counts) (drop b.at s) f.ensures))))
+    (c.at_end-answer.ensures machine) in
+    record { kept_len = k.ensures.words_len.1; result_after = read; by_index = λ n e. absurd (not_refused _ n c.in-Accepted.is e) }

@@ -22,11 +22,11 @@ code_fits t xs n = go (side n (length (write_map t xs)))
     go (inl l) = rw (lt-leb (length (write_map t xs)) n l) (omega arith)
     go (inr l) = rw (le-leb (length (write_map t xs)) n l) (omega arith)
 
-file-fits : (t : Tables) (xs : List Binding) (lent out : List ℕ) (r : ℕ) → ◌≡◌ {A = ℕ × List ℕ} (r, out) (sent t xs lent) → length out ≡ length lent → r / 32 ≤ length out
-file-fits t xs lent out r e h = omega (arith, h, ap (λ (a : ℕ × List ℕ). a.0 / 32) e, code_fits t xs (length lent))
+file_fits : (t : Tables) (xs : List Binding) (lent out : List ℕ) (r : ℕ) → ◌≡◌ {A = ℕ × List ℕ} (r, out) (sent t xs lent) → length out ≡ length lent → r / 32 ≤ length out
+file_fits t xs lent out r e h = omega (arith, h, ap (λ (a : ℕ × List ℕ). a.0 / 32) e, code_fits t xs (length lent))
 
 pub slice_bounds-print_bytes-end : goal.slice_bounds-print_bytes-end
-slice_bounds-print_bytes-end g c = file-fits _ _ _ _ _ c.write_map-r.ensures c.write_map-r.auto.output
+slice_bounds-print_bytes-end g c = file_fits _ _ _ _ _ c.write_map-r.ensures c.write_map-r.auto.output
 
 pub slice_bounds-print_bytes-end-2 : goal.slice_bounds-print_bytes-end-2
-slice_bounds-print_bytes-end-2 g c = sym (length-take-le _ _ (file-fits _ _ _ _ _ c.write_map-r.ensures c.write_map-r.auto.output))
+slice_bounds-print_bytes-end-2 g c = sym (length-take-le _ _ (file_fits _ _ _ _ _ c.write_map-r.ensures c.write_map-r.auto.output))

@@ -22,8 +22,12 @@ add_intermediate-c-requires c = record { mode_bound = c.requires.mode_bound.0; w
 
 pub loop-i-preserved : goal.loop-i-preserved
 loop-i-preserved c = let a = c.args in let ps = a.path.parts in
-    (omega arith, c.add_intermediate-c.ensures.words_len_2, parts_more a.mode _ _ _ (view_cons part_of a.n ps raw_part c.loop-i.i a.n (let h : c.args.n ≡ min c.args.n (length c.args.path.parts) = omega (arith, (let h : length c.args.path.parts ≡ 32 = search (rules, length-mapped) in h), c.requires.mode_bound.1) in h) (omega arith)) (rw c.part_at-p.ensures at c.add_intermediate-c.ensures.leads) ∙ c.loop-i.invariant.2)
+    let long : length ps ≡ 32 = search (rules, length-mapped) in
+    let whole : a.n ≡ min a.n (length ps) = omega (arith, long, c.requires.mode_bound.1) in
+    (omega arith, c.add_intermediate-c.ensures.words_len_2, parts_more a.mode _ _ _ (view_cons part_of a.n ps raw_part c.loop-i.i a.n whole (omega arith)) (rw c.part_at-p.ensures at c.add_intermediate-c.ensures.leads) ∙ c.loop-i.invariant.2)
 
 pub returns : goal.returns
 returns c = let a = c.args in let ps = a.path.parts in
-    record { words_len_2 = c.loop-i.invariant.1; leads = record { is = sym (parts_none a.mode (came_to c.loop-i.words c.loop-i.c) _ (view_nil part_of a.n ps raw_part c.loop-i.i a.n (let h : c.args.n ≡ min c.args.n (length c.args.path.parts) = omega (arith, (let h : length c.args.path.parts ≡ 32 = search (rules, length-mapped) in h), c.requires.mode_bound.1) in h) (omega arith))) ∙ c.loop-i.invariant.2 } }
+    let long : length ps ≡ 32 = search (rules, length-mapped) in
+    let whole : a.n ≡ min a.n (length ps) = omega (arith, long, c.requires.mode_bound.1) in
+    record { words_len_2 = c.loop-i.invariant.1; leads = record { is = sym (parts_none a.mode (came_to c.loop-i.words c.loop-i.c) _ (view_nil part_of a.n ps raw_part c.loop-i.i a.n whole (omega arith))) ∙ c.loop-i.invariant.2 } }

@@ -10,11 +10,11 @@ use borrow.Author.Rules.{rules}
 use Rattle.keymachine.proofs.live.Live.pop.Goals as goal
 
 pub returns-then-n-eq0 : goal.returns-then-n-eq0
-returns-then-n-eq0 c g ks t = let m = c.args.self in
-    pop_none (machine_by g ks t m) m.state.queued c.least_of-n.result m.queue refl (let h : length c.args.self.queue ≡ 256 = search rules in h) c.least_of-n.ensures c.if-n-eq0.true
+returns-then-n-eq0 c g ks t = let m = c.args.self in let l : length m.queue ≡ 256 = search rules in
+    pop_none (machine_by g ks t m) m.state.queued c.least_of-n.result m.queue refl l c.least_of-n.ensures c.if-n-eq0.true
 
 pub returns : goal.returns
-returns c g ks t = let m = c.args.self in let l : length c.args.self.queue ≡ 256 = search rules in let n = c.least_of-n in let o = c.copy in
+returns c g ks t = let m = c.args.self in let l : length m.queue ≡ 256 = search rules in let n = c.least_of-n in let o = c.copy in
     let h : 0 + (n.result - 1) ≤ length m.queue = omega (arith, l, n.ensures) in
     let k : 1 + (n.result - 1) ≤ length m.queue = omega (arith, l, n.ensures, c.if-n-eq0.false) in
     rw c.unpack-pair.ensures (pop_some (machine_by g ks t m) m.state.queued n.result m.queue refl l n.ensures o.new.dst c.if-n-eq0.false

@@ -13,20 +13,20 @@ use borrow.Author.Rules.{rules}
 use Rattle.keyparts.proofs.graph.Graph.fresh.Invariants.{rooted}
 use Rattle.keyparts.proofs.graph.Graph.fresh.Goals as goal
 
-rooted-next : (n : ℕ) (ws : List ℕ) → ws ≡ rooted n → set ws (2048 + n) (128 + n) ≡ rooted (n + 1)
+rooted_next : (n : ℕ) (ws : List ℕ) → ws ≡ rooted n → set ws (2048 + n) (128 + n) ≡ rooted (n + 1)
 unfolding rooted
-rooted-next n ws e = rw (e, add-one n)
+rooted_next n ws e = rw (e, add-one n)
 
-all-roots : (n : ℕ) (ws : List ℕ) → ws ≡ rooted n → n ≤ 16 → 16 ≤ n → graph_in ws (record { nodes = 16; edges = 0 }) ≡ fresh_graph
+all_roots : (n : ℕ) (ws : List ℕ) → ws ≡ rooted n → n ≤ 16 → 16 ≤ n → graph_in ws (record { nodes = 16; edges = 0 }) ≡ fresh_graph
 unfolding rooted fresh_graph roots node_at zip_with action_at edge_words head_words act_words
-all-roots n ws e h k = let i : n ≡ 16 = omega arith in rw (e, i)
+all_roots n ws e h k = let i : n ≡ 16 = omega arith in rw (e, i)
 
 pub loop-mode-init : goal.loop-mode-init
 unfolding rooted
 loop-mode-init c = (search rules, refl)
 
 pub loop-mode-preserved : goal.loop-mode-preserved
-loop-mode-preserved c = (omega arith, rooted-next c.loop-mode.mode c.loop-mode.words c.loop-mode.invariant.1)
+loop-mode-preserved c = (omega arith, rooted_next c.loop-mode.mode c.loop-mode.words c.loop-mode.invariant.1)
 
 pub returns : goal.returns
-returns c = all-roots c.loop-mode.mode c.loop-mode.words c.loop-mode.invariant.1 c.loop-mode.invariant.0 (omega arith)
+returns c = all_roots c.loop-mode.mode c.loop-mode.words c.loop-mode.invariant.1 c.loop-mode.invariant.0 (omega arith)

@@ -14,9 +14,9 @@ use Rattle.keyvalues.proofs.tables.TableWords.new.Goals as goal
 abbrev sized : Sizes → List ℕ
 sized z = set (set (set (replicate 131 0) 0 z.classes) 1 z.modes) 2 z.rules
 
-sized-are : (z : Sizes) → z.classes < 65536 → z.modes < 65536 → z.rules < 65536 → sizes_in (sized z) ≡ z
+sized_are : (z : Sizes) → z.classes < 65536 → z.modes < 65536 → z.rules < 65536 → sizes_in (sized z) ≡ z
 unfolding sizes_in
-sized-are z a b d =
+sized_are z a b d =
     let e : z.classes % 65536 ≡ z.classes = omega arith in
     let f : z.modes % 65536 ≡ z.modes = omega arith in
     let g : z.rules % 65536 ≡ z.rules = omega arith in
@@ -29,4 +29,4 @@ returns c = let a = c.args in
     let lr : length a.rules ≡ 64 = search rules in
     let d = sized a.sizes in
     rw (c.copy-3.ensures, c.copy-2.ensures, c.copy.ensures)
-    (sizes_stand d a.classes a.modes a.rules refl lc lm lr ∙ sized-are a.sizes (search rules) (search rules) (search rules), classes_stand d a.classes a.modes a.rules refl lc lm lr, modes_stand d a.classes a.modes a.rules refl lc lm lr, rules_stand d a.classes a.modes a.rules refl lc lm lr)
+    (sizes_stand d a.classes a.modes a.rules refl lc lm lr ∙ sized_are a.sizes (search rules) (search rules) (search rules), classes_stand d a.classes a.modes a.rules refl lc lm lr, modes_stand d a.classes a.modes a.rules refl lc lm lr, rules_stand d a.classes a.modes a.rules refl lc lm lr)
