@@ -1,11 +1,11 @@
 #!/usr/bin/env python3
 """Gives the definitions and lemmas of this repository the spelling of today's Rattle, after port.py: words in snake case.
 
-usage: tools/respell.py            at the top of the repository
+usage: tools/respell.py            at the top of the repository, once
 
 tools/respell.tsv has a row for each name: the older spelling, a tab, today's. In .antt files each word of the code turns, and in a
-comment each word in backquotes or asterisks. In .rt files what turns is the clauses and the `ghost use` items, where names with
-capitals alone are at stake, and the same names in comments. Functions of src/, strings, inputs and outputs keep their names.
+comment each word in backquotes or asterisks. In .rt files the clauses and the `ghost use` items turn, and in comments the names
+with capitals. Functions of src/, strings, inputs and outputs keep their names.
 """
 
 import os
@@ -14,6 +14,7 @@ import re
 HERE = os.path.dirname(os.path.realpath(__file__))
 WORD = re.compile(r'[^\s(){}.;,@"«»\[\]|`*]+')
 QUOTED = re.compile(r"(`[^`\n]*`|\*[^*\n]*\*)")
+CLAUSE = re.compile(r"^ *(?:requires|ensures|ghost) .*$", re.M)
 CAMEL = re.compile(r"\b[a-z]+[a-z0-9]*(?:[A-Z][A-Za-z0-9]*)+\b")
 
 
@@ -38,23 +39,35 @@ def in_antt(text, names):
 
 
 def in_rt(text, names):
+    def clause(m):
+        return WORD.sub(lambda w: names.get(w.group(), w.group()) if "-" in w.group() else w.group(), m.group())
+
+    text = CLAUSE.sub(clause, text)
     return CAMEL.sub(lambda m: names.get(m.group(), m.group()), text)
+
+
+def files():
+    for folder, dirs, names in os.walk("crates"):
+        dirs[:] = [d for d in dirs if d != "out"]
+        for name in sorted(names):
+            if name.endswith((".antt", ".rt")):
+                yield os.path.join(folder, name)
 
 
 def main():
     names = table()
-    for folder, dirs, files in os.walk("crates"):
-        dirs[:] = [d for d in dirs if d != "out"]
-        for name in sorted(files):
-            path = os.path.join(folder, name)
-            if not name.endswith((".antt", ".rt")):
-                continue
-            with open(path, encoding="utf-8") as f:
-                text = f.read()
-            new = in_antt(text, names) if name.endswith(".antt") else in_rt(text, names)
-            if new != text:
-                with open(path, "w", encoding="utf-8") as f:
-                    f.write(new)
+    texts = {}
+    for path in files():
+        with open(path, encoding="utf-8") as f:
+            texts[path] = f.read()
+    # a name may be another's older spelling, so a second run would turn it again
+    if not any(names.get(word) for text in texts.values() for word in CAMEL.findall(text)):
+        raise SystemExit("no name has an older spelling: nothing to do")
+    for path, text in texts.items():
+        new = in_antt(text, names) if path.endswith(".antt") else in_rt(text, names)
+        if new != text:
+            with open(path, "w", encoding="utf-8") as f:
+                f.write(new)
 
 
 main()
