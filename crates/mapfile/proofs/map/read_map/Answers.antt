@@ -3,7 +3,7 @@
 use mathlib.Core.Path.{◌≡◌, ◌∙◌, ap}
 use lib.ListN.{drop}
 use Rattle.rules.specs.Tables.{Tables}
-use Rattle.rules.specs.Calls.{graph_kind, fresh}
+use Rattle.rules.specs.Calls.{Machine, graph_kind, fresh}
 use Rattle.rules.specs.MapFile.{read_bindings, read_machine, read_map}
 use Rattle.keyvalues.specs.View.{result_by}
 use Rattle.keyparts.specs.View.{graph_in}

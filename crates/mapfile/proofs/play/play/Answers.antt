@@ -1,8 +1,7 @@
 -- The map, then the keys, then the playing: the order of the definition, and each refusal ends it.
-use mathlib.Core.Path.{◌≡◌, sym, ap, ◌∙◌, subst}
+use mathlib.Core.Path.{sym, ap, ◌∙◌, subst}
 use mathlib.Core.List.{[]}
 use mathlib.Core.Bool.{true}
-use lib.ListN.{length}
 use Rattle.rules.specs.Run.{read_keys, play_keys}
 use Rattle.keyloop.proofs.Navigators.{index_leads}
 use Rattle.mapparts.specs.View.{Checked}
