@@ -23,7 +23,7 @@ pub fetch-requires : goal.fetch-requires
 fetch-requires c = block c.args.sequences.now c.args.sequence c.requires c.if-sequence-ge-SEQUENCES.false
 
 pub shape_of-sequences : goal.shape_of-sequences
-shape_of-sequences c = let a = c.args in let f = c.fetch in 
+shape_of-sequences c = let a = c.args in let f = c.fetch in
     part_long a.sequences.now f.new.block (a.sequence * 65) (a.sequence * 65 + 65 - a.sequence * 65) (omega arith) (f.auto.block ∙ block a.sequences.now a.sequence c.requires c.if-sequence-ge-SEQUENCES.false ∙ sym (span a.sequence))
 
 pub returns : goal.returns
