@@ -42,8 +42,9 @@ extern "C" {
  * two machines know nothing of each other. Bytes are lent as a pointer and their count; the pointer is never null, even
  * where the count is 0.
  *
- * The archive calls memcpy, memmove and memset and nothing else, takes no heap and has no data of its own. No call took more
- * stack than this on x86-64 in the runs of examples/stack.c, which measures it; that is no proof of a bound:
+ * The archive calls memcpy and memset and nothing else, takes no heap and has no data of its own. On x86-64 its code is for
+ * processors that have x86-64-v2 (SSE4.2 and POPCNT). No call took more stack than this on x86-64 in the runs of
+ * examples/stack.c, which measures it; that is no proof of a bound:
  *
  *     keymap_size          1 KiB
  *     keymap_open        262 KiB

@@ -169,32 +169,32 @@ fn bytes(items: &[u8]) -> String {
 }
 
 const HEAD: &str = "use Prim.Native.Nat.{ℕ}
-use mathlib.Core.Path.{_≡_, refl}
+use mathlib.Core.Path.{◌≡◌, refl}
 use mathlib.Core.Bool.{Bool, true, false}
 use mathlib.Core.Option.{Option, none, some}
-use mathlib.Core.List.{List, [], _∷_}
-use Rattle·rules.specs.Basics.{accept, refuse, open-Basics}
-use Rattle·rules.specs.Values.{Key, Class, Any, Fallthrough, Once, Min, Max, pair, open-Values}
-use Rattle·rules.specs.Tables.{open-Tables}
-use Rattle·rules.specs.Graph.{Empty, Root, Holds, open-Graph}
-use Rattle·rules.specs.KeyLoop.{open-KeyLoop}
-use Rattle·rules.specs.Calls.{Open, Map, Prefix, Pop, Repeats, Reset, graphKind, open-Calls}
-use Rattle·rules.specs.Calls.{Accepted, Refused, Popped, Nothing, Pressed, PressRefused}
-use Rattle·rules.specs.ListReader.{listKind, open-ListReader}
-use Rattle·rules.specs.Numbers.{open-Numbers}
-use Rattle·rules.specs.MapFile.{open-MapFile}
-use Rattle·rules.specs.Run.{open-Run}
-use Rattle·rules.specs.Writing.{open-Writing}
-use Rattle·CRATE·proofs.proofs.Words.{Tried, _⇒_, seen, part, doing, class, mode, rule, tables, context, key, look, tryAll, outcome}
-use Rattle·CRATE·proofs.proofs.Words.{Ran, ran, runOutcome, Printed, printed, playOutcome, Built, built, node, led, shown, buildOutcome}
-use Rattle·CRATE·proofs.proofs.Words.{Filed, filed, fileOutcome}
+use mathlib.Core.List.{List, [], ◌∷◌}
+use Rattle.rules.specs.Basics.{accept, refuse, open-Basics}
+use Rattle.rules.specs.Values.{Key, Class, Any, Fallthrough, Once, Min, Max, pair, open-Values}
+use Rattle.rules.specs.Tables.{open-Tables}
+use Rattle.rules.specs.Graph.{Empty, Root, Holds, open-Graph}
+use Rattle.rules.specs.KeyLoop.{open-KeyLoop}
+use Rattle.rules.specs.Calls.{Open, Map, Prefix, Pop, Repeats, Reset, graph_kind, open-Calls}
+use Rattle.rules.specs.Calls.{Accepted, Refused, Popped, Nothing, Pressed, PressRefused}
+use Rattle.rules.specs.ListReader.{list_kind, open-ListReader}
+use Rattle.rules.specs.Numbers.{open-Numbers}
+use Rattle.rules.specs.MapFile.{open-MapFile}
+use Rattle.rules.specs.Run.{open-Run}
+use Rattle.rules.specs.Writing.{open-Writing}
+use Rattle.CRATE.proofs.Words.{Tried, ◌⇒◌, seen, part, doing, class, mode, rule, tables, context, key, look, try_all, outcome}
+use Rattle.CRATE.proofs.Words.{Ran, ran, run_outcome, Printed, printed, play_outcome, Built, built, node, led, shown, build_outcome}
+use Rattle.CRATE.proofs.Words.{Filed, filed, file_outcome}
 
 ";
 
 const OPENED: &str =
     "unfolding open-Basics open-Values open-Tables open-Graph open-KeyLoop open-Calls open-ListReader \
-                      open-Numbers open-MapFile open-Run open-Writing look tryAll outcome runOutcome playOutcome \
-                      buildOutcome fileOutcome";
+                      open-Numbers open-MapFile open-Run open-Writing look try_all outcome run_outcome play_outcome \
+                      build_outcome file_outcome";
 
 /// What the rows of a file are, and the function of `rows/words.txt` that gives the rules' own row for one of them.
 pub struct Sort {
@@ -209,7 +209,7 @@ pub fn file(name: &str, sort: &Sort, rows: &[Row]) -> String {
     let mut text = HEAD.replace("CRATE", name);
     for Row { name, value } in rows {
         let _ = write!(text, "abbrev pub {name} : {of}\n{name} =\n    {value}\n\n");
-        let _ = write!(text, "pub {name}-holds : {outcome} {name} ≡ {name}\n{OPENED}\n{name}-holds = refl\n\n");
+        let _ = write!(text, "pub {name}_holds : {outcome} {name} ≡ {name}\n{OPENED}\n{name}_holds = refl\n\n");
     }
     text
 }

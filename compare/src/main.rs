@@ -201,19 +201,19 @@ fn ran(seed: u64) -> (cases::Case, u32, Vec<u8>) {
 
 fn rows(sort: &str, first: u64, count: u64, name: &str) {
     let (words, row): (Sort, fn(u64, &str) -> Row) = match sort {
-        "runs" => (Sort { of: "Ran", outcome: "runOutcome" }, |seed, _| {
+        "runs" => (Sort { of: "Ran", outcome: "run_outcome" }, |seed, _| {
             let (case, code, output) = ran(seed);
             antt::run_row(row_name(seed), &case, code, &output)
         }),
-        "keyplay" => (Sort { of: "Printed", outcome: "playOutcome" }, |seed, _| {
+        "keyplay" => (Sort { of: "Printed", outcome: "play_outcome" }, |seed, _| {
             let input = cases::input_of(seed);
             antt::play_row(row_name(seed), &input, &agreed(seed, mapfile::keyplay(&input)))
         }),
-        "graphs" => (Sort { of: "Built", outcome: "buildOutcome" }, |seed, _| {
+        "graphs" => (Sort { of: "Built", outcome: "build_outcome" }, |seed, _| {
             let (calls, model) = agreed(seed, play::build(&gen::list_of(seed, Kind::Usual)));
             antt::graph_row(row_name(seed), &calls, model.graph())
         }),
-        "files" => (Sort { of: "Filed", outcome: "fileOutcome" }, |seed, _| {
+        "files" => (Sort { of: "Filed", outcome: "file_outcome" }, |seed, _| {
             let (calls, model) = agreed(seed, play::build(&gen::list_of(seed, Kind::Usual)));
             let file = model.file();
             // a byte too few, just enough, and some more
@@ -221,8 +221,8 @@ fn rows(sort: &str, first: u64, count: u64, name: &str) {
             let (code, output) = writing::written(&file, &lent);
             antt::file_row(row_name(seed), &calls, &lent, code, &output)
         }),
-        "reader" => (Sort { of: "List Tried", outcome: "outcome listKind" }, list_row),
-        _ => (Sort { of: "List Tried", outcome: "outcome graphKind" }, list_row),
+        "reader" => (Sort { of: "List Tried", outcome: "outcome list_kind" }, list_row),
+        _ => (Sort { of: "List Tried", outcome: "outcome graph_kind" }, list_row),
     };
     let rows: Vec<Row> = (first..first + count).map(|seed| row(seed, sort)).collect();
     print!("{}", antt::file(name, &words, &rows));
