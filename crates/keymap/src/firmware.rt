@@ -1,5 +1,6 @@
 // What C calls. `keymap.h` says what it lends. Each call on the one scanner that C keeps takes it apart by field, calls what
-// stands in coded.rt on the parts, and stores the part that comes back.
+// stands in coded.rt on the parts, and stores the part that comes back. A key calls what coded.rt calls: that saves copies of
+// the live state, and so 12 KiB of stack.
 ghost use Rattle.std.specs.Prelude.{◌≡◌, length};
 ghost use Rattle.std.proofs.Math.Option.{none};
 ghost use Rattle.rules.specs.Calls.{graph_kind, call, mode_call, Press, Pop, Repeats, Reset, find};
@@ -8,7 +9,9 @@ ghost use Rattle.rules.specs.Writing.{write_call};
 ghost use Rattle.keymachine.specs.View.{scanner_of};
 ghost use Rattle.keymap.specs.Codes.{coded, open_map, bind_map, repeat_over, find_code, Hints, scanner_bytes};
 
-use crate::{coded, over};
+use crate::words::words_of;
+use crate::{coded, codes};
+use keymachine::live;
 use keymachine::scanner::Scanner;
 use mapfile::run;
 use mapwrite::map;
@@ -41,15 +44,16 @@ pub fn keymap_bind(m: &mut Scanner, binding: &[u8]) -> u64
 pub fn keymap_key(m: &mut Scanner, key: u16, budget: u16) -> u64
     ensures { (scanner_of m.new, result) ≡ coded (call graph_kind (scanner_of m.old) (Press (record { key = key; budget = budget }))) }
 {
-    let r = over::input_key_coded(
-        &(*m).machine.map.graph,
+    let r = live::input_key(
+        words_of(&(*m).machine.map.graph),
+        (*m).machine.map.graph.counts,
         (*m).machine.map.tables,
         (*m).machine.live,
         key,
         budget,
     );
     (*m).machine.live = r.live;
-    r.answer
+    codes::pressed_code(r.answer)
 }
 
 pub fn keymap_pop(m: &mut Scanner) -> u64
@@ -94,7 +98,12 @@ pub fn keymap_mode(m: &Scanner) -> u64
 pub fn keymap_find(m: &Scanner, mode: u16, action: u16) -> u64
     ensures { result ≡ find_code (find (scanner_of m.now).bindings mode action) }
 {
-    over::find_coded(&(*m).machine.map.graph, mode, action)
+    coded::find(
+        words_of(&(*m).machine.map.graph),
+        (*m).machine.map.graph.counts,
+        mode,
+        action,
+    )
 }
 
 pub fn keymap_free(m: &Scanner) -> u64

@@ -8,13 +8,15 @@ ghost use Rattle.keytables.specs.View.{whole_tables};
 ghost use Rattle.keypairs.specs.View.{over_of};
 ghost use Rattle.keymachine.specs.View.{scanner_of, press_of, pop_of};
 
-use crate::over;
+use crate::words::words_of;
 use keybind::map;
 use keygraph::answer::Answer;
 use keygraph::find::Found;
+use keygraph::layout;
 use keygraph::path::EdgePath;
 use keygraph::step::Step;
 use keymachine::context::Override;
+use keymachine::live;
 use keymachine::live::{Pressed, Waiting};
 use keymachine::scanner::Scanner;
 use keymachine::tables::Tables;
@@ -47,8 +49,9 @@ pub fn add_prefix(m: &mut Scanner, mode: u16, path: EdgePath, chosen: bool, step
 pub fn input_key(m: &mut Scanner, key: u16, budget: u16) -> Pressed
     ensures { (scanner_of m.new, press_of result) ≡ call graph_kind (scanner_of m.old) (Press (record { key = key; budget = budget })) }
 {
-    let r = over::input_key(
-        &(*m).machine.map.graph,
+    let r = live::input_key(
+        words_of(&(*m).machine.map.graph),
+        (*m).machine.map.graph.counts,
         (*m).machine.map.tables,
         (*m).machine.live,
         key,
@@ -92,7 +95,12 @@ pub fn mode(m: &Scanner) -> u16
 pub fn find(m: &Scanner, mode: u16, action: u16) -> Found
     ensures { found_of result ≡ find (scanner_of m.now).bindings mode action }
 {
-    over::find(&(*m).machine.map.graph, mode, action)
+    layout::find_node(
+        words_of(&(*m).machine.map.graph),
+        (*m).machine.map.graph.counts,
+        mode,
+        action,
+    )
 }
 
 pub fn free_nodes(m: &Scanner) -> u16

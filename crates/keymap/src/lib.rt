@@ -6,4 +6,4 @@ pub mod coded;
 mod codes;
 pub mod firmware;
 pub mod lent;
-mod over;
+mod words;
