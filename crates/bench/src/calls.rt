@@ -2,8 +2,7 @@
 use keptcalls::call::BindingCall;
 use keygraph::find::Found;
 use keygraph::number;
-use keymachine::context::{Context, Override};
-use keymachine::live::Waiting;
+use keymachine::context::Context;
 use keymachine::machine::ModalMachine;
 use keymachine::pair::Pair;
 use keymachine::scanner::Scanner;
@@ -45,10 +44,10 @@ pub fn bench_keys_by_value<'a>(bytes: &'a [u8], keys: &'a [u16], budget: u16) ->
             m = popped;
             let answer = p.answer;
             match answer {
-                Waiting::Pair(pair) => {
+                Some(pair) => {
                     sum = benchkeys::mix(sum, pair);
                 }
-                Waiting::Nothing => break,
+                None => break,
             }
             left = left - 1;
         }
@@ -71,7 +70,7 @@ fn remembered() -> u16 {
     let fresh = SequenceTracker::fresh();
     let pushed = fresh.push(Status::Track, Pair::default());
     let tracker = pushed.tracker;
-    let fetched = tracker.fetch(Override::By(Context { count: 5, mark: 6 }));
+    let fetched = tracker.fetch(Some(Context { count: 5, mark: 6 }));
     fetched.answer
 }
 
@@ -83,7 +82,7 @@ pub fn bench_other_calls(bytes: &[u8]) -> u64 {
     let a = mapped.scanner;
     let prefixed = a.add_prefix(2, crate::two_keys(1, 2), true, crate::one_action(3));
     let b = prefixed.scanner.machine;
-    let repeated = b.repeat(0, Override::By(Context { count: 5, mark: 6 }));
+    let repeated = b.repeat(0, Some(Context { count: 5, mark: 6 }));
     let c = repeated.machine;
     let reset = c.reset_mode();
     let d = reset.machine;
@@ -157,7 +156,7 @@ pub fn bench_repeats(bytes: &[u8], times: u16) -> u64 {
     let mut i = 0u16;
     while i < times {
         m.live.state.queued = 0;
-        let r = m.repeat(0, Override::By(Context { count: i, mark: 6 }));
+        let r = m.repeat(0, Some(Context { count: i, mark: 6 }));
         let next = r.machine;
         m = next;
         sum = stir(sum, m.live.state.queued);

@@ -14,7 +14,7 @@ use keygraph::follow::FollowResult;
 use keygraph::graph::Graph;
 use keygraph::index::Index;
 use keygraph::path::{EdgePath, EdgePathPart};
-use keygraph::step::{Maybe, Step};
+use keygraph::step::Step;
 use keygraph::tables::TableWords;
 use keygraph::{layout, mapping};
 
@@ -69,9 +69,9 @@ pub(crate) fn one_action(a: u16) -> Step {
         unmapped: false,
         actions: [a; Step::ACTIONS as usize],
         count: 1,
-        next: Maybe::Nothing,
-        fallthrough: Maybe::Nothing,
-        mark: Maybe::Nothing,
+        next: None,
+        fallthrough: None,
+        mark: None,
     }
 }
 

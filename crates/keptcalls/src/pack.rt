@@ -10,7 +10,7 @@ ghost use Rattle.keptcalls.specs.View.{event_by, repeat_by, cut_repeat, cut_part
 use crate::call::BindingCall;
 use keyvalues::event::{EdgeEvent, EdgeRepeat};
 use keyvalues::path::{EdgePath, EdgePathPart};
-use keyvalues::step::{Maybe, Step};
+use keyvalues::step::Step;
 use keyvalues::{node, number};
 
 // The value in the lower 16 bits, the kind above them.
@@ -60,22 +60,22 @@ fn pack_parts(block: &mut [u64], path: EdgePath)
 }
 
 // A mode that may be missing: 0, or one more than the mode.
-fn mode_code(mode: Maybe) -> u64
+fn mode_code(mode: Option<u16>) -> u64
     ensures { (present v.is_mode (maybe_of mode) ≡ true → optional result ≡ maybe_of mode) × (result < 32) }
 {
     match mode {
-        Maybe::Nothing => 0,
-        Maybe::Just(n) => ((n % 16) as u64) + 1,
+        None => 0,
+        Some(n) => ((n % 16) as u64) + 1,
     }
 }
 
 // A mark that may be missing: 0, or the mark.
-fn mark_code(mark: Maybe) -> u64
+fn mark_code(mark: Option<u16>) -> u64
     ensures { (present v.is_mark (maybe_of mark) ≡ true → optional_mark result ≡ maybe_of mark) × (result < 65536) }
 {
     match mark {
-        Maybe::Nothing => 0,
-        Maybe::Just(n) => n as u64,
+        None => 0,
+        Some(n) => n as u64,
     }
 }
 

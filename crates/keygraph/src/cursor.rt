@@ -12,7 +12,6 @@ use keyparts::graph::{Counts, Graph};
 use keyparts::layout;
 use keyvalues::answer::Answer;
 use keyvalues::node::NodeWords;
-use keyvalues::step::Maybe;
 use keyvalues::{event, number};
 
 // `prev` is the node come to, `owed` whether a Fallthrough edge is owed from there, and `refusal` the number of the
@@ -275,7 +274,7 @@ impl Cursor {
     pub(crate) fn upsert_at(
         self,
         words: &mut [u64; Graph::WORDS],
-        e: Maybe,
+        e: Option<u16>,
         p: NodeWords,
     ) -> NodeResult
         requires { length words.old ≡ 4128 }
@@ -284,8 +283,8 @@ impl Cursor {
         ensures cursor_after { edges_in words.new result.cursor ≡ edges_in words.old self }
     {
         match e {
-            Maybe::Just(n) => return self.settle(words, n, p),
-            Maybe::Nothing => return self.add_node(words, p),
+            Some(n) => return self.settle(words, n, p),
+            None => return self.add_node(words, p),
         }
     }
 

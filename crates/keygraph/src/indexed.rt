@@ -12,7 +12,6 @@ use keyparts::graph::Graph;
 use keyparts::index::Index;
 use keyparts::{index, layout};
 use keyvalues::node::NodeWords;
-use keyvalues::step::Maybe;
 use keyvalues::{event, number};
 
 impl Cursor {
@@ -63,7 +62,7 @@ impl Cursor {
         self,
         words: &mut [u64; Graph::WORDS],
         links: &mut [u16; Index::LINKS],
-        end: Maybe,
+        end: Option<u16>,
     ) -> Cursor
         requires { (length words.old ≡ 4128) × Indexed (edges_in words.old self) links.old }
         ensures words_len { length words.new ≡ 4128 }
@@ -71,8 +70,8 @@ impl Cursor {
         ensures indexed { Indexed (edges_in words.new result) links.new }
     {
         match end {
-            Maybe::Just(n) => return self.edge_by(words, links, n, event::FALLTHROUGH),
-            Maybe::Nothing => return self,
+            Some(n) => return self.edge_by(words, links, n, event::FALLTHROUGH),
+            None => return self,
         }
     }
 

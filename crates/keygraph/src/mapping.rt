@@ -16,18 +16,18 @@ use keyvalues::event;
 use keyvalues::event::EdgeRepeat;
 use keyvalues::node::NodeWords;
 use keyvalues::path::{EdgePath, EdgePathPart};
-use keyvalues::step::{Maybe, Step};
+use keyvalues::step::Step;
 use keyvalues::tables::TableWords;
 
 impl Cursor {
-    fn map_fall(self, words: &mut [u64; Graph::WORDS], fall: Maybe) -> Cursor
+    fn map_fall(self, words: &mut [u64; Graph::WORDS], fall: Option<u16>) -> Cursor
         requires { length words.old ≡ 4128 }
         ensures words_len { length words.new ≡ 4128 }
         ensures leads { Leads (came_to words.old self) (g.map_fall (maybe_of fall)) (came_to words.new result) }
     {
         match fall {
-            Maybe::Just(m) => return self.edge_to(words, m, event::FALLTHROUGH),
-            Maybe::Nothing => return self,
+            Some(m) => return self.edge_to(words, m, event::FALLTHROUGH),
+            None => return self,
         }
     }
 

@@ -13,7 +13,6 @@ use keyvalues::event;
 use keyvalues::event::EdgeRepeat;
 use keyvalues::node::NodeWords;
 use keyvalues::path::{EdgePath, EdgePathPart};
-use keyvalues::step::Maybe;
 
 impl Cursor {
     // One step along the event: to the end of its edge, or to a node more; an edge that is owed is paid on the way.
@@ -53,7 +52,7 @@ impl Cursor {
         n: u16,
         mode: u16,
         code: u32,
-        end: Maybe,
+        end: Option<u16>,
     ) -> Cursor
         requires mode_bound { mode < 16 }
         requires words_len { length words.old ≡ 4128 }
@@ -89,7 +88,7 @@ impl Cursor {
         ensures words_len_2 { length words.new ≡ 4128 }
         ensures leads { Leads (came_to words.old self) (g.add_simples n mode (event_at code)) (came_to words.new result) }
     {
-        self.add_times(words, n, mode, code, Maybe::Nothing)
+        self.add_times(words, n, mode, code, None)
     }
 
     // n further times the event, each of which may be the last.
@@ -106,7 +105,7 @@ impl Cursor {
         ensures words_len_2 { length words.new ≡ 4128 }
         ensures leads { Leads (came_to words.old self) (g.add_optionals n mode (event_at code) end) (came_to words.new result) }
     {
-        self.add_times(words, n, mode, code, Maybe::Just(end))
+        self.add_times(words, n, mode, code, Some(end))
     }
 
     // At least n times, and then on to `back`, which the event leads back to. At 0 there is nothing to go by to the end.
@@ -257,8 +256,8 @@ impl Cursor {
         let code = ev.code();
         let e = layout::get_edge(words, self.counts.edges, self.prev, code);
         match e {
-            Maybe::Just(n) => return self.go(n),
-            Maybe::Nothing => return self.add_repeat(words, repeat, mode, code),
+            Some(n) => return self.go(n),
+            None => return self.add_repeat(words, repeat, mode, code),
         }
     }
 

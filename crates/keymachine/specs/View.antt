@@ -1,5 +1,6 @@
 -- What a machine by value and its answers mean, in the values of the rules.
-use Rattle.std.specs.Prelude.{ℕ, List, take}
+use Rattle.std.specs.Prelude
+use Rattle.std.specs.Prelude.{Some, None, ℕ, List, take}
 use Rattle.rules.specs.Values.{Binding}
 use Rattle.rules.specs.Tables.{Tables}
 use Rattle.rules.specs.Graph.{Graph}
@@ -15,8 +16,7 @@ use Rattle.keymachine.specs.declared.scanner.Scanner.{Scanner}
 use Rattle.keymachine.specs.declared.live.Live.{Live}
 use Rattle.keymachine.specs.declared.live.Pressed.{Pressed}
 use Rattle.keymachine.specs.declared.live.Pressed.TheVariants.{Accepted, Refused}
-use Rattle.keymachine.specs.declared.live.Waiting.{Waiting}
-use Rattle.keymachine.specs.declared.live.Waiting.TheVariants.{Pair as PairOf, Nothing as NothingWaits}
+use Rattle.keypairs.specs.declared.pair.Pair.{Pair}
 
 -- a count above an array's length is the whole array, so that every value of the struct is some live state
 abbrev pub live_of : Tables → Live → State ℕ
@@ -41,6 +41,6 @@ abbrev pub press_of : Pressed → c.Answer
 press_of (Accepted rounds) = c.Pressed rounds
 press_of (Refused n rounds) = c.PressRefused n rounds
 
-abbrev pub pop_of : Waiting → c.Answer
-pop_of (PairOf p) = c.Popped (pair_by p)
-pop_of NothingWaits = c.Nothing
+abbrev pub pop_of : Prelude.Option Pair → c.Answer
+pop_of (Some p) = c.Popped (pair_by p)
+pop_of None = c.Nothing

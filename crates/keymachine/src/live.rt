@@ -16,7 +16,7 @@ use keygraph::graph::{Counts, Graph};
 use keygraph::tables::TableWords;
 use keygraph::{copy, layout, number};
 use keyloop::key;
-use keypairs::context::Override;
+use keypairs::context::Context;
 use keypairs::pair::Pair;
 use keypairs::state::State;
 use keypairs::tracker::SequenceTracker;
@@ -46,15 +46,9 @@ pub struct LiveKeyResult {
 }
 
 #[derive(Clone, Copy)]
-pub enum Waiting {
-    Pair(Pair),
-    Nothing,
-}
-
-#[derive(Clone, Copy)]
 pub struct LivePopResult {
     pub live: Live,
-    pub answer: Waiting,
+    pub answer: Option<Pair>,
 }
 
 // What repeat and reset hand back.
@@ -137,7 +131,7 @@ impl Live {
         if n == 0 {
             return LivePopResult {
                 live: self,
-                answer: Waiting::Nothing,
+                answer: None,
             };
         }
         let rest = n - 1;
@@ -151,7 +145,7 @@ impl Live {
         live.state = s;
         LivePopResult {
             live: live,
-            answer: Waiting::Pair(pair),
+            answer: Some(pair),
         }
     }
 
@@ -183,7 +177,7 @@ impl Live {
     }
 
     // The remembered pairs of the sequence, overridden and stored again, go before the queue.
-    pub fn repeat(self, sequence: u16, over: Override) -> LiveResult
+    pub fn repeat(self, sequence: u16, over: Option<Context>) -> LiveResult
         ensures { (g : Bindings) (ks : List Binding) (t : Tables) → (machine_by g ks t result.live, answer_of result.answer) ≡ call graph_kind (machine_by g ks t self) (Repeats sequence (over_of over)) }
     {
         if SequenceTracker::SEQUENCES <= sequence {

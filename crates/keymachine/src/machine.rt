@@ -11,13 +11,14 @@ ghost use Rattle.keybind.specs.View.{map_with};
 ghost use Rattle.keymachine.specs.View.{machine_of, press_of, pop_of};
 
 use crate::live;
-use crate::live::{Live, Pressed, Waiting};
+use crate::live::{Live, Pressed};
 use keybind::map::Map;
 use keygraph::answer::Answer;
 use keygraph::find::Found;
 use keygraph::graph::Graph;
 use keygraph::tables::TableWords;
-use keypairs::context::Override;
+use keypairs::context::Context;
+use keypairs::pair::Pair;
 use keytables::tables::Tables;
 
 #[repr(C)]
@@ -43,7 +44,7 @@ pub struct KeyResult {
 #[derive(Clone, Copy)]
 pub struct PopResult {
     pub machine: ModalMachine,
-    pub answer: Waiting,
+    pub answer: Option<Pair>,
 }
 
 impl ModalMachine {
@@ -150,7 +151,7 @@ impl ModalMachine {
     }
 
     // The remembered pairs of the sequence, overridden and stored again, go before the queue.
-    pub fn repeat(self, sequence: u16, over: Override) -> CallResult
+    pub fn repeat(self, sequence: u16, over: Option<Context>) -> CallResult
         ensures { (ws : List ℕ) → (machine_of ws result.machine, answer_of result.answer) ≡ call graph_kind (machine_of ws self) (Repeats sequence (over_of over)) }
     {
         let live = self.live;

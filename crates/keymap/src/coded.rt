@@ -21,7 +21,7 @@ use keygraph::answer::Answer;
 use keygraph::graph::{Counts, Graph};
 use keygraph::layout;
 use keygraph::tables::TableWords;
-use keymachine::context::{Context, Override};
+use keymachine::context::Context;
 use keymachine::live;
 use keymachine::live::Live;
 use keymachine::machine::ModalMachine;
@@ -136,7 +136,7 @@ pub fn pop(live: Live) -> CodedLive
 pub fn repeat(live: Live, sequence: u16) -> CodedLive
     ensures { (g : Bindings) (ks : List Binding) (t : Tables) → (machine_by g ks t result.live, result.answer) ≡ coded (call graph_kind (machine_by g ks t live) (Repeats sequence none)) }
 {
-    let r = live.repeat(sequence, Override::Nothing);
+    let r = live.repeat(sequence, None);
     let next = r.live;
     let answer = r.answer;
     CodedLive {
@@ -155,7 +155,7 @@ pub fn repeat_over(live: Live, sequence: u16, count: u32, mark: u16) -> CodedLiv
             answer: 1,
         };
     }
-    let over = Override::By(Context {
+    let over = Some(Context {
         count: count as u16,
         mark: mark,
     });

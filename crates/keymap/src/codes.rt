@@ -7,7 +7,8 @@ ghost use Rattle.keymap.specs.Codes.{answer_code, find_code};
 
 use keygraph::answer::Answer;
 use keygraph::find::Found;
-use keymachine::live::{Pressed, Waiting};
+use keymachine::live::Pressed;
+use keymachine::pair::Pair;
 
 // 0, or the refusal's number.
 pub(crate) fn answer_code(a: Answer) -> u64
@@ -30,16 +31,16 @@ pub(crate) fn pressed_code(p: Pressed) -> u64
 }
 
 // 0, or the pair's three numbers below a bit that says that there is one.
-pub(crate) fn waiting_code(w: Waiting) -> u64
+pub(crate) fn waiting_code(w: Option<Pair>) -> u64
     ensures { result ≡ answer_code (pop_of w) }
 {
     match w {
-        Waiting::Pair(p) => {
+        Some(p) => {
             let x = p.context;
             let pair = (p.action as u64) + (x.count as u64) * 65536 + (x.mark as u64) * 4294967296;
             return pair + 281474976710656;
         }
-        Waiting::Nothing => return 0,
+        None => return 0,
     }
 }
 

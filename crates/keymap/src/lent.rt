@@ -15,9 +15,10 @@ use keygraph::find::Found;
 use keygraph::layout;
 use keygraph::path::EdgePath;
 use keygraph::step::Step;
-use keymachine::context::Override;
+use keymachine::context::Context;
 use keymachine::live;
-use keymachine::live::{Pressed, Waiting};
+use keymachine::live::Pressed;
+use keymachine::pair::Pair;
 use keymachine::scanner::Scanner;
 use keymachine::tables::Tables;
 
@@ -61,7 +62,7 @@ pub fn input_key(m: &mut Scanner, key: u16, budget: u16) -> Pressed
     r.answer
 }
 
-pub fn pop(m: &mut Scanner) -> Waiting
+pub fn pop(m: &mut Scanner) -> Option<Pair>
     ensures { (scanner_of m.new, pop_of result) ≡ call graph_kind (scanner_of m.old) Pop }
 {
     let r = (*m).machine.live.pop();
@@ -69,7 +70,7 @@ pub fn pop(m: &mut Scanner) -> Waiting
     r.answer
 }
 
-pub fn repeat(m: &mut Scanner, sequence: u16, over: Override) -> Answer
+pub fn repeat(m: &mut Scanner, sequence: u16, over: Option<Context>) -> Answer
     ensures { (scanner_of m.new, answer_of result) ≡ call graph_kind (scanner_of m.old) (Repeats sequence (over_of over)) }
 {
     let r = (*m).machine.live.repeat(sequence, over);

@@ -1,5 +1,6 @@
 -- What the words of pairs and sequences and the declared types mean, in the values of the rules. Every word decodes to something.
-use Rattle.std.specs.Prelude.{ℕ, ◌/◌, ◌%◌, true, List, map, eqb, length, take, drop, set, get_or, if◌then◌else◌}
+use Rattle.std.specs.Prelude
+use Rattle.std.specs.Prelude.{Some, None, ℕ, ◌/◌, ◌%◌, true, List, map, eqb, length, take, drop, set, get_or, if◌then◌else◌}
 use Rattle.std.proofs.Math.Option
 use Rattle.std.proofs.Math.Option.{Option, none, some}
 use Rattle.rules.specs.Basics.{Result, ◌>>=◌}
@@ -10,8 +11,6 @@ use Rattle.rules.specs.Calls as c
 use Rattle.rules.specs.Graph as g
 use Rattle.keytables.specs.View.{blocks}
 use Rattle.keypairs.specs.declared.context.Context.{Context}
-use Rattle.keypairs.specs.declared.context.Override.{Override}
-use Rattle.keypairs.specs.declared.context.Override.TheVariants.{Nothing, By}
 use Rattle.keypairs.specs.declared.pair.Pair.{Pair}
 use Rattle.keypairs.specs.declared.tracker.Status.{Status}
 use Rattle.keypairs.specs.declared.tracker.Status.TheVariants.{Atom, Break, Ignore, Restart, Track}
@@ -26,9 +25,9 @@ context_of x = record { count = x.count; mark = x.mark }
 abbrev pub chosen_of : ℕ → ℕ → ℕ
 chosen_of over old = if eqb over 0 then old else over
 
-abbrev pub over_of : Override → Option v.Context
-over_of Nothing = none
-over_of (By x) = some (context_of x)
+abbrev pub over_of : Prelude.Option Context → Option v.Context
+over_of None = none
+over_of (Some x) = some (context_of x)
 
 abbrev pub pair_by : Pair → v.Pair
 pair_by p = record { action = p.action; context = context_of p.context }

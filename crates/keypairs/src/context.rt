@@ -20,13 +20,6 @@ pub struct TakeResult {
     pub answer: Context,
 }
 
-// A context that overrides another, perhaps.
-#[derive(Clone, Copy)]
-pub enum Override {
-    Nothing,
-    By(Context),
-}
-
 // The count with a digit more, up to the largest value.
 fn counted(count: u16, key: u16) -> u16
     requires { 48 ≤ key }

@@ -15,7 +15,7 @@ use crate::queue;
 use crate::state::State;
 use crate::tracker::SequenceTracker;
 use keytables::tables::{Actions, ModeEntry};
-use keyvalues::step::{Maybe, Step};
+use keyvalues::step::Step;
 use keyvalues::tables::TableWords;
 use keyvalues::{node, number};
 
@@ -119,12 +119,12 @@ fn or_default(a: Actions) -> Actions
     a
 }
 
-fn next_or(next: Maybe, mode: u16) -> u16
+fn next_or(next: Option<u16>, mode: u16) -> u16
     ensures { result ≡ get_or (maybe_of next) mode }
 {
     match next {
-        Maybe::Nothing => return mode,
-        Maybe::Just(m) => return m,
+        None => return mode,
+        Some(m) => return m,
     }
 }
 
@@ -136,7 +136,7 @@ pub(crate) fn give_goto(
     sequences: &mut [u64; SequenceTracker::ALL],
     s: State,
     actions: Actions,
-    next: Maybe,
+    next: Option<u16>,
 ) -> GotoResult
     requires { (length tables.now ≡ 131) × (length queue.old ≡ 256) × (length sequences.old ≡ 520) }
     ensures queue_len { (length queue.new ≡ 256) × (length sequences.new ≡ 520) }

@@ -4,7 +4,7 @@ ghost use Rattle.rules.specs.Values as v;
 ghost use Rattle.rules.specs.KeyLoop.{override};
 ghost use Rattle.keypairs.specs.View.{pair_by, pair_of, over_of};
 
-use crate::context::{Context, Override};
+use crate::context::Context;
 use keyvalues::number;
 
 #[derive(Clone, Copy)]
@@ -48,12 +48,12 @@ impl Pair {
     }
 
     // The pair with its context overridden, if a context is given.
-    pub fn overridden(self, over: Override) -> Pair
+    pub fn overridden(self, over: Option<Context>) -> Pair
         ensures { pair_by result ≡ override (over_of over) (pair_by self) }
     {
         match over {
-            Override::Nothing => return self,
-            Override::By(c) => {
+            None => return self,
+            Some(c) => {
                 let x = self.context;
                 return Pair {
                     action: self.action,

@@ -6,7 +6,6 @@ ghost use Rattle.keyvalues.specs.View.{maybe_of};
 ghost use Rattle.keypairs.specs.View.{shared_of, state_of};
 
 use crate::context::Context;
-use keyvalues::step::Maybe;
 
 // The place is a node; `queued` words of the queue are waiting pairs, and `trailed` keys are on the trail.
 #[repr(C)]
@@ -37,12 +36,12 @@ impl State {
     }
 
     // The mark of a step, if it has one.
-    pub(crate) fn marked(self, mark: Maybe) -> State
+    pub(crate) fn marked(self, mark: Option<u16>) -> State
         ensures { (ts : t.Tables) (q sq tr : List ℕ) → state_of result ts q sq tr ≡ key.at self.place (key.set_mark (maybe_of mark) (shared_of self ts q sq tr)) }
     {
         match mark {
-            Maybe::Nothing => return self,
-            Maybe::Just(m) => {
+            None => return self,
+            Some(m) => {
                 let mut next = self;
                 next.context.mark = m;
                 return next;

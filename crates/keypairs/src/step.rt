@@ -17,7 +17,7 @@ use crate::tracker::SequenceTracker;
 use keyparts::graph::Graph;
 use keyparts::layout;
 use keytables::tables::Actions;
-use keyvalues::step::{Maybe, Step};
+use keyvalues::step::Step;
 use keyvalues::tables::TableWords;
 
 // The list of the node's mode is given, and its next mode entered; without one, the entered mode anew. Refused, the lent
@@ -43,13 +43,13 @@ pub fn unmapped_or_scratch<'a>(
 }
 
 // Has a step neither action nor next mode?
-fn idle(count: u16, next: Maybe) -> bool
+fn idle(count: u16, next: Option<u16>) -> bool
     ensures { result ≡ eqb count 0 && not (is_there (maybe_of next)) }
 {
     if count == 0 {
         match next {
-            Maybe::Nothing => return true,
-            Maybe::Just(_) => return false,
+            None => return true,
+            Some(_) => return false,
         }
     }
     false

@@ -7,7 +7,7 @@ ghost use Rattle.rules.specs.KeyLoop as key;
 ghost use Rattle.keyvalues.specs.View.{outcome, settled, answer_of};
 ghost use Rattle.keypairs.specs.View.{pair_of, pair_by, tracker_of, tracker_by, trackers_of, status_by, broke, over_of, fetched_by, fetched_at};
 
-use crate::context::Override;
+use crate::context::Context;
 use crate::pair::Pair;
 use keytables::rule::Rule;
 use keyvalues::answer::Answer;
@@ -118,7 +118,7 @@ fn count_of(head: u64) -> u16
 }
 
 // Each pair is overridden and stored again; the answer is their number.
-fn fetch(block: &mut [u64], over: Override) -> u16
+fn fetch(block: &mut [u64], over: Option<Context>) -> u16
     requires { length block.old ≡ 65 }
     ensures block_after { tracker_of block.new ≡ key.fetch (over_of over) (tracker_of block.old) }
     ensures value { result ≡ length (tracker_of block.old).pairs }
@@ -149,7 +149,7 @@ fn break_each(sequences: &mut [u64])
     }
 }
 
-fn fetch_in(sequences: &mut [u64], sequence: u16, over: Override) -> u16
+fn fetch_in(sequences: &mut [u64], sequence: u16, over: Option<Context>) -> u16
     requires { length sequences.old ≡ 520 }
     ensures { (trackers_of sequences.new, result) ≡ fetched_at sequence (over_of over) (trackers_of sequences.old) }
 {
@@ -171,7 +171,11 @@ pub fn break_all(sequences: &mut [u64; SequenceTracker::ALL])
 }
 
 // The sequence of the number is fetched. A number that no sequence has changes nothing, and the answer is 0.
-pub fn fetch_at(sequences: &mut [u64; SequenceTracker::ALL], sequence: u16, over: Override) -> u16
+pub fn fetch_at(
+    sequences: &mut [u64; SequenceTracker::ALL],
+    sequence: u16,
+    over: Option<Context>,
+) -> u16
     requires { length sequences.old ≡ 520 }
     ensures sequences_len { length sequences.new ≡ 520 }
     ensures result_after { (trackers_of sequences.new, result) ≡ fetched_at sequence (over_of over) (trackers_of sequences.old) }
@@ -238,7 +242,7 @@ impl SequenceTracker {
         }
     }
 
-    pub fn fetch(self, over: Override) -> FetchResult
+    pub fn fetch(self, over: Option<Context>) -> FetchResult
         ensures { (tracker_by result.tracker, result.answer) ≡ fetched_by (over_of over) (tracker_by self) }
     {
         let mut words = self.words;

@@ -5,7 +5,6 @@ ghost use Rattle.keyvalues.specs.View.{event_at, graph_by, maybe_of};
 ghost use Rattle.keyparts.specs.View.{edges_of, first_place, key_is};
 
 use keyvalues::number;
-use keyvalues::step::Maybe;
 
 // The place of the first of the first `count` words with this key in its upper 48 bits, or their number. Two words a turn:
 // this loop is most of what adding a binding costs.
@@ -32,16 +31,16 @@ pub(crate) fn scan(edges: &[u64], count: u16, key: u64) -> usize
 }
 
 // The end of the node's edge for the event of the code.
-pub(crate) fn get_edge(edges: &[u64], count: u16, node: u16, code: u32) -> Maybe
+pub(crate) fn get_edge(edges: &[u64], count: u16, node: u16, code: u32) -> Option<u16>
     ensures { (ns : List g.Node) → maybe_of result ≡ g.get_edge (graph_by ns (edges_of edges.now count)) node (event_at code) }
 {
     let n = number::least(count, edges.len());
     let key = number::key_of(node, code);
     let i = scan(edges, count, key);
     if i < n {
-        return Maybe::Just(number::low(edges[i]));
+        return Some(number::low(edges[i]));
     }
-    Maybe::Nothing
+    None
 }
 
 pub(crate) fn has_edges(edges: &[u64], count: u16, node: u16) -> bool

@@ -7,7 +7,6 @@ ghost use Rattle.keyparts.specs.View.{follow_of, reached, linked_end, follow_lin
 use crate::index;
 use crate::index::Index;
 use keyvalues::event::EdgeEvent;
-use keyvalues::step::Maybe;
 use keyvalues::{class, event, number};
 
 #[derive(Clone, Copy)]
@@ -29,13 +28,13 @@ fn follow_rest<'a>(
 {
     let any = index::linked_edge(edges, count, links, node, event::ANY);
     match any {
-        Maybe::Just(to) => return FollowResult::Successor(EdgeEvent::Any, to),
-        Maybe::Nothing => {}
+        Some(to) => return FollowResult::Successor(EdgeEvent::Any, to),
+        None => {}
     }
     let fall = index::linked_edge(edges, count, links, node, event::FALLTHROUGH);
     match fall {
-        Maybe::Just(to) => return FollowResult::Fallthrough(to),
-        Maybe::Nothing => return FollowResult::NoSuccessor,
+        Some(to) => return FollowResult::Fallthrough(to),
+        None => return FollowResult::NoSuccessor,
     }
 }
 
@@ -47,7 +46,7 @@ fn member_end<'a>(
     node: u16,
     key: u16,
     entry: u64,
-) -> Maybe
+) -> Option<u16>
     requires { length links.now ≡ 2304 }
     ensures { maybe_of result ≡ member_end (linked_end (reached edges.now count) links.now node) key entry }
 {
@@ -55,7 +54,7 @@ fn member_end<'a>(
         let of = number::low(entry);
         index::linked_edge(edges, count, links, node, (of as u32) + 65536)
     } else {
-        Maybe::Nothing
+        None
     }
 }
 
@@ -87,8 +86,8 @@ fn follow_classes<'a>(
         let of = number::low(w);
         let e = member_end(edges, count, links, node, key, w);
         match e {
-            Maybe::Just(to) => return FollowResult::Successor(EdgeEvent::Class(of), to),
-            Maybe::Nothing => {}
+            Some(to) => return FollowResult::Successor(EdgeEvent::Class(of), to),
+            None => {}
         }
         i = i + 1;
     }
@@ -110,8 +109,8 @@ pub(crate) fn follow_edge<'a>(
 {
     let k = index::linked_edge(edges, count, links, node, key as u32);
     match k {
-        Maybe::Just(to) => return FollowResult::Successor(EdgeEvent::Key(key), to),
-        Maybe::Nothing => {}
+        Some(to) => return FollowResult::Successor(EdgeEvent::Key(key), to),
+        None => {}
     }
     follow_classes(edges, count, links, classes, entries, node, key)
 }

@@ -8,7 +8,6 @@ ghost use Rattle.keyparts.specs.View.{reached, chain_of, linked_place, linked_en
 
 use crate::graph::Graph;
 use keyvalues::number;
-use keyvalues::step::Maybe;
 
 #[derive(Clone, Copy)]
 pub struct Index {
@@ -91,7 +90,7 @@ pub(crate) fn linked_edge<'a>(
     links: &'a [u16; Index::LINKS],
     node: u16,
     code: u32,
-) -> Maybe
+) -> Option<u16>
     requires { length links.now ≡ 2304 }
     ensures { maybe_of result ≡ linked_end (reached edges.now count) links.now node (event_at code) }
 {
@@ -99,7 +98,7 @@ pub(crate) fn linked_edge<'a>(
     let key = number::key_of(node, code);
     let i = linked_place(edges, count, links, key);
     if i < n {
-        return Maybe::Just(number::low(edges[i]));
+        return Some(number::low(edges[i]));
     }
-    Maybe::Nothing
+    None
 }

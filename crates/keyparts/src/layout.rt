@@ -13,7 +13,6 @@ use crate::graph::{Counts, Graph};
 use crate::index::Index;
 use crate::{edge, find, follow, index};
 use keyvalues::node::{Node, NodeWords};
-use keyvalues::step::Maybe;
 use keyvalues::tables::TableWords;
 use keyvalues::{node, number};
 
@@ -32,7 +31,7 @@ pub fn scan(words: &[u64; Graph::WORDS], count: u16, key: u64) -> usize
     edge::scan(edges, count, key)
 }
 
-pub fn get_edge(words: &[u64; Graph::WORDS], count: u16, node: u16, code: u32) -> Maybe
+pub fn get_edge(words: &[u64; Graph::WORDS], count: u16, node: u16, code: u32) -> Option<u16>
     requires { length words.now ≡ 4128 }
     ensures { (ns : List g.Node) → maybe_of result ≡ g.get_edge (graph_by ns (edges_of (edge_words words.now) count)) node (event_at code) }
 {
@@ -82,7 +81,7 @@ pub fn linked_edge<'a>(
     links: &'a [u16; Index::LINKS],
     node: u16,
     code: u32,
-) -> Maybe
+) -> Option<u16>
     requires { (length words.now ≡ 4128) × (length links.now ≡ 2304) }
     ensures { maybe_of result ≡ linked_end (reached (edge_words words.now) count) links.now node (event_at code) }
 {

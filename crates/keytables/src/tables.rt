@@ -8,7 +8,7 @@ ghost use Rattle.keytables.specs.View.{whole_actions, entry_by, entry_of, whole_
 
 use crate::rule::Rule;
 use keyvalues::event::EdgeEvent;
-use keyvalues::step::{Maybe, Step};
+use keyvalues::step::Step;
 use keyvalues::tables::{Sizes, TableWords};
 use keyvalues::{class, node, number, step};
 
@@ -31,7 +31,7 @@ pub struct Actions {
 pub struct ModeEntry {
     pub enter: Actions,
     pub unmapped: Actions,
-    pub next: Maybe,
+    pub next: Option<u16>,
 }
 
 // The sizes tell how many entries of each count. More than the arrays hold are tables that open refuses.
@@ -114,7 +114,7 @@ impl ModeEntry {
         ModeEntry {
             enter: actions,
             unmapped: actions,
-            next: Maybe::Nothing,
+            next: None,
         }
     }
 

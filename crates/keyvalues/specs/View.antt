@@ -1,6 +1,7 @@
 -- What the declared types of values and the words that they are kept in mean, in the values of the rules. Every word decodes to
 -- something.
-use Rattle.std.specs.Prelude.{ℕ, zero, suc, ◌+◌, ◌-◌, ◌/◌, ◌%◌, Bool, true, false, List, [], ◌∷◌, ◌++◌, map, ltb, eqb, length, take, drop, replicate, get_or, if◌then◌else◌}
+use Rattle.std.specs.Prelude
+use Rattle.std.specs.Prelude.{Some, None, Ok, Err, ℕ, zero, suc, ◌+◌, ◌-◌, ◌/◌, ◌%◌, Bool, true, false, List, [], ◌∷◌, ◌++◌, map, ltb, eqb, length, take, drop, replicate, get_or, if◌then◌else◌}
 use Rattle.std.proofs.Math.Option.{Option, none, some}
 use Rattle.std.proofs.Math.Seq.{paste}
 use Rattle.rules.specs.Basics.{Result, accept, refuse}
@@ -10,12 +11,12 @@ use Rattle.rules.specs.Graph as g
 use Rattle.rules.specs.Calls as calls
 use Rattle.keyvalues.specs.declared.answer.Answer.{Answer}
 use Rattle.keyvalues.specs.declared.answer.Answer.TheVariants.{Accepted, Refused}
+use Rattle.keyvalues.specs.declared.refusal.Refusal.{Refusal}
+use Rattle.keyvalues.specs.declared.refusal.Refusal.TheVariants.{OutOfRange, NodesFull, EdgesFull, OtherMode, QueueFull, SequenceFull, TrailFull, NoBudget, Malformed, OutputFull, CallsFull}
 use Rattle.keyvalues.specs.declared.event.EdgeEvent.{EdgeEvent}
 use Rattle.keyvalues.specs.declared.event.EdgeEvent.TheVariants.{Key, Class, Any, Fallthrough}
 use Rattle.keyvalues.specs.declared.event.EdgeRepeat.{EdgeRepeat}
 use Rattle.keyvalues.specs.declared.event.EdgeRepeat.TheVariants.{Once, Min, Max}
-use Rattle.keyvalues.specs.declared.step.Maybe.{Maybe}
-use Rattle.keyvalues.specs.declared.step.Maybe.TheVariants.{Nothing, Just}
 use Rattle.keyvalues.specs.declared.step.Step.{Step}
 use Rattle.keyvalues.specs.declared.path.EdgePathPart.{EdgePathPart}
 use Rattle.keyvalues.specs.declared.path.EdgePath.{EdgePath}
@@ -27,9 +28,9 @@ use Rattle.keyvalues.specs.declared.tables.Sizes.{Sizes}
 
 -- ---- the declared types
 
-abbrev pub maybe_of : Maybe → Option ℕ
-maybe_of Nothing = none
-maybe_of (Just n) = some n
+abbrev pub maybe_of : Prelude.Option ℕ → Option ℕ
+maybe_of None = none
+maybe_of (Some n) = some n
 
 abbrev pub event_of : EdgeEvent → v.Event
 event_of (Key k) = v.Key k
@@ -68,6 +69,25 @@ unfoldable pub node_of : Node → g.Node
 node_of n = record { mode = n.mode; action = action_of n.action (step_of n.step) }
 
 -- ---- answers
+
+-- the number of a refusal
+abbrev pub number_of : Refusal → ℕ
+number_of OutOfRange = 1
+number_of NodesFull = 2
+number_of EdgesFull = 3
+number_of OtherMode = 4
+number_of QueueFull = 5
+number_of SequenceFull = 6
+number_of TrailFull = 7
+number_of NoBudget = 8
+number_of Malformed = 9
+number_of OutputFull = 10
+number_of CallsFull = 11
+
+-- what a call came to, where its value means what f says
+abbrev pub told : {A B : Type 0} → (A → B) → Prelude.Result A Refusal → Result B
+told f (Ok a) = accept (f a)
+told f (Err r) = refuse (number_of r)
 
 abbrev pub answer_of : Answer → calls.Answer
 answer_of Accepted = calls.Accepted

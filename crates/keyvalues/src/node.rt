@@ -6,7 +6,7 @@ ghost use Rattle.rules.specs.Calls.{holds_action};
 ghost use Rattle.keyvalues.specs.View.{maybe_of, opt_of, step_of, step_at, action_of, action_at, node_of, nodes_of, graph_by, node_in};
 
 use crate::number;
-use crate::step::{Maybe, Step};
+use crate::step::Step;
 
 // What a node does. The step of `Step` stands beside it in the node, since an enum here holds no array.
 #[derive(Clone, Copy)]
@@ -49,22 +49,22 @@ impl Node {
 }
 
 // What may be missing, in a word: 0 for nothing, and else one more than the number.
-pub fn opt(m: Maybe) -> u64
+pub fn opt(m: Option<u16>) -> u64
     ensures { (opt_of result ≡ maybe_of m) × (result < 131072) }
 {
     match m {
-        Maybe::Nothing => 0,
-        Maybe::Just(n) => (n as u64) + 1,
+        None => 0,
+        Some(n) => (n as u64) + 1,
     }
 }
 
-pub fn unopt(x: u64) -> Maybe
+pub fn unopt(x: u64) -> Option<u16>
     ensures { maybe_of result ≡ opt_of x }
 {
     if x == 0 {
-        Maybe::Nothing
+        None
     } else {
-        Maybe::Just(number::low(x - 1))
+        Some(number::low(x - 1))
     }
 }
 

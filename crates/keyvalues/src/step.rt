@@ -7,40 +7,33 @@ ghost use Rattle.keyvalues.specs.View.{maybe_of, step_of, whole_step};
 use crate::number;
 use crate::tables::TableWords;
 
-// A number that may be missing.
-#[derive(Clone, Copy)]
-pub enum Maybe {
-    Nothing,
-    Just(u16),
-}
-
 // The first `count` actions are the step's. A count over 4 is a step that every call refuses.
 #[derive(Clone, Copy)]
 pub struct Step {
     pub unmapped: bool,
     pub actions: [u16; Step::ACTIONS as usize],
     pub count: u16,
-    pub next: Maybe,
-    pub fallthrough: Maybe,
-    pub mark: Maybe,
+    pub next: Option<u16>,
+    pub fallthrough: Option<u16>,
+    pub mark: Option<u16>,
 }
 
 // A mode that may be missing is in range.
-pub fn mode_valid(m: Maybe) -> bool
+pub fn mode_valid(m: Option<u16>) -> bool
     ensures { result ≡ present v.is_mode (maybe_of m) }
 {
     match m {
-        Maybe::Nothing => true,
-        Maybe::Just(n) => n < TableWords::MODES,
+        None => true,
+        Some(n) => n < TableWords::MODES,
     }
 }
 
-fn mark_valid(m: Maybe) -> bool
+fn mark_valid(m: Option<u16>) -> bool
     ensures { result ≡ present v.is_mark (maybe_of m) }
 {
     match m {
-        Maybe::Nothing => true,
-        Maybe::Just(n) => 1 <= n,
+        None => true,
+        Some(n) => 1 <= n,
     }
 }
 
@@ -55,9 +48,9 @@ impl Step {
             unmapped: false,
             actions: [0u16; Step::ACTIONS as usize],
             count: 0,
-            next: Maybe::Nothing,
-            fallthrough: Maybe::Nothing,
-            mark: Maybe::Nothing,
+            next: None,
+            fallthrough: None,
+            mark: None,
         }
     }
 

@@ -6,7 +6,7 @@ ghost use Rattle.keyvalues.specs.View.{fit, maybe_of};
 ghost use Rattle.mapparts.specs.View.{place_of, Reads, read_mark};
 
 use crate::place::FilePlace;
-use keyvalues::step::{Maybe, Step};
+use keyvalues::step::Step;
 use keyvalues::tables::TableWords;
 
 // The first `count` actions are the list.
@@ -19,7 +19,7 @@ pub struct ActionsRead {
 
 #[derive(Clone, Copy)]
 pub struct MaybeRead {
-    pub value: Maybe,
+    pub value: Option<u16>,
     pub place: FilePlace,
 }
 
@@ -56,12 +56,12 @@ pub fn read_optional_mode(s: &[u8], from: FilePlace) -> MaybeRead
     let v = n.value;
     if v == 0 {
         return MaybeRead {
-            value: Maybe::Nothing,
+            value: None,
             place: c,
         };
     }
     MaybeRead {
-        value: Maybe::Just(v - 1),
+        value: Some(v - 1),
         place: c,
     }
 }
@@ -75,12 +75,12 @@ pub fn read_mark(s: &[u8], from: FilePlace) -> MaybeRead
     let v = n.value;
     if v == 0 {
         return MaybeRead {
-            value: Maybe::Nothing,
+            value: None,
             place: c,
         };
     }
     MaybeRead {
-        value: Maybe::Just(v),
+        value: Some(v),
         place: c,
     }
 }

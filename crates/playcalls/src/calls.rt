@@ -6,7 +6,7 @@ use keptcalls::call::BindingCall;
 use keybind::map;
 use keybind::map::MapResult;
 use keygraph::step::Step;
-use keymachine::context::{Context, Override};
+use keymachine::context::Context;
 use keymachine::live::Live;
 use keymachine::machine::ModalMachine;
 use mapparts::place::FilePlace;
@@ -22,7 +22,7 @@ struct Played {
 
 #[derive(Clone, Copy)]
 struct OverRead {
-    over: Override,
+    over: Option<Context>,
     place: FilePlace,
 }
 
@@ -204,13 +204,13 @@ fn read_override(s: &[u8], from: FilePlace) -> OverRead {
     let a = k.place;
     if k.value == 0 {
         return OverRead {
-            over: Override::Nothing,
+            over: None,
             place: a,
         };
     }
     if k.value > 1 {
         return OverRead {
-            over: Override::Nothing,
+            over: None,
             place: FilePlace {
                 at: a.at,
                 refusal: 9,
@@ -222,7 +222,7 @@ fn read_override(s: &[u8], from: FilePlace) -> OverRead {
     let mark = b.number(s);
     let c = mark.place;
     OverRead {
-        over: Override::By(Context {
+        over: Some(Context {
             count: count.value,
             mark: mark.value,
         }),

@@ -3,7 +3,7 @@
 use crate::tables;
 use keygraph::event::{EdgeEvent, EdgeRepeat};
 use keygraph::path::{EdgePath, EdgePathPart};
-use keygraph::step::{Maybe, Step};
+use keygraph::step::Step;
 use mapparts::place::FilePlace;
 
 #[derive(Clone, Copy)]
@@ -160,12 +160,12 @@ fn read_mark(s: &[u8], from: FilePlace) -> tables::MaybeRead {
     let v = n.value;
     if v == 0 {
         return tables::MaybeRead {
-            value: Maybe::Nothing,
+            value: None,
             place: c,
         };
     }
     tables::MaybeRead {
-        value: Maybe::Just(v),
+        value: Some(v),
         place: c,
     }
 }

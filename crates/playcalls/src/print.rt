@@ -1,7 +1,7 @@
 // Lines of answers.
 use keygraph::answer::Answer;
 use keygraph::find::Found;
-use keymachine::live::{Pressed, Waiting};
+use keymachine::live::Pressed;
 use keymachine::pair::Pair;
 use std::io;
 use std::io::Write;
@@ -66,10 +66,10 @@ fn pair<W: Write>(out: &mut W, p: Pair) -> io::Result<()> {
     number(out, x.mark)
 }
 
-pub fn waiting<W: Write>(out: &mut W, answer: Waiting) -> io::Result<()> {
+pub fn waiting<W: Write>(out: &mut W, answer: Option<Pair>) -> io::Result<()> {
     match answer {
-        Waiting::Pair(p) => pair(out, p),
-        Waiting::Nothing => out.write_all(b"nothing"),
+        Some(p) => pair(out, p),
+        None => out.write_all(b"nothing"),
     }
 }
 

@@ -1,6 +1,6 @@
 // The three tables with any numbers. Of a table that is longer than its array the count is kept, and what does not fit is
 // dropped.
-use keygraph::step::{Maybe, Step};
+use keygraph::step::Step;
 use keygraph::tables::TableWords;
 use keymachine::rule::Rule;
 use keymachine::tables::{Actions, ClassEntry, ModeEntry, Tables};
@@ -14,7 +14,7 @@ pub struct ActionsRead {
 
 #[derive(Clone, Copy)]
 pub struct MaybeRead {
-    pub value: Maybe,
+    pub value: Option<u16>,
     pub place: FilePlace,
 }
 
@@ -66,12 +66,12 @@ pub fn read_maybe(s: &[u8], from: FilePlace) -> MaybeRead {
     let v = n.value;
     if v == 0 {
         return MaybeRead {
-            value: Maybe::Nothing,
+            value: None,
             place: c,
         };
     }
     MaybeRead {
-        value: Maybe::Just(v - 1),
+        value: Some(v - 1),
         place: c,
     }
 }

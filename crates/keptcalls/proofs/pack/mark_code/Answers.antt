@@ -5,9 +5,9 @@ use Rattle.keptcalls.proofs.Packing.{mark_back}
 use borrow.Author.Rules.{rules}
 use Rattle.keptcalls.proofs.pack.mark_code.Goals as goal
 
-pub returns-in-Nothing : goal.returns-in-Nothing
+pub returns-in-None : goal.returns-in-None
 unfolding optional_mark
-returns-in-Nothing c = (rw c.in-Nothing.is (λ h. refl), search rules)
+returns-in-None c = (rw c.in-None.is (λ h. refl), search rules)
 
-pub returns-in-Just : goal.returns-in-Just
-returns-in-Just c = (rw c.in-Just.is (mark_back _), search rules)
+pub returns-in-Some : goal.returns-in-Some
+returns-in-Some c = (rw c.in-Some.is (mark_back _), search rules)

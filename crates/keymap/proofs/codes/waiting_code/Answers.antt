@@ -4,5 +4,5 @@ use Rattle.keymachine.specs.View.{pop_of}
 use Rattle.keymap.specs.Codes.{answer_code}
 use Rattle.keymap.proofs.codes.waiting_code.Goals as goal
 
-pub returns-in-Pair : goal.returns-in-Pair
-returns-in-Pair c = sym (ap (λ w. answer_code (pop_of w)) c.in-Pair.is)
+pub returns-in-Some : goal.returns-in-Some
+returns-in-Some c = sym (ap (λ w. answer_code (pop_of w)) c.in-Some.is)

@@ -17,13 +17,13 @@ use Rattle.keyparts.proofs.follow.follow_classes.Goals as goal
 pub loop-i-init : goal.loop-i-init
 loop-i-init c = (search rules, refl)
 
-pub returns-in-Just : goal.returns-in-Just
+pub returns-in-Some : goal.returns-in-Some
 unfolding or_else_by
-returns-in-Just c = let a = c.args in let k = c.loop-i in let l = c.least-n in
+returns-in-Some c = let a = c.args in let k = c.loop-i in let l = c.least-n in
     rw (c.low-of.ensures, c.entry_at-w.ensures)
     (sym (k.invariant.1 ∙ ap (follow_members (linked_end (reached a.edges.now a.count) a.links.now a.node) a.key) (view_cons class_at a.entries a.classes.now 0 k.i l.result l.ensures (search rules))
-    ∙ members_step (linked_end (reached a.edges.now a.count) a.links.now a.node) a.key (get_or a.classes.now k.i 0) (map class_at (drop (k.i + 1) (take a.entries a.classes.now))) (some c.in-Just.to)
-    (sym (rw c.entry_at-w.ensures at c.member_end-e.ensures) ∙ ap maybe_of c.in-Just.is)))
+    ∙ members_step (linked_end (reached a.edges.now a.count) a.links.now a.node) a.key (get_or a.classes.now k.i 0) (map class_at (drop (k.i + 1) (take a.entries a.classes.now))) (some c.in-Some.to)
+    (sym (rw c.entry_at-w.ensures at c.member_end-e.ensures) ∙ ap maybe_of c.in-Some.is)))
 
 pub loop-i-preserved : goal.loop-i-preserved
 unfolding or_else_by
@@ -31,7 +31,7 @@ loop-i-preserved c = let a = c.args in let k = c.loop-i in let l = c.least-n in 
   search rules,
   k.invariant.1 ∙ ap (follow_members (linked_end (reached a.edges.now a.count) a.links.now a.node) a.key) (view_cons class_at a.entries a.classes.now 0 k.i l.result l.ensures (search rules))
       ∙ members_step (linked_end (reached a.edges.now a.count) a.links.now a.node) a.key (get_or a.classes.now k.i 0) (map class_at (drop (k.i + 1) (take a.entries a.classes.now))) none
-      (sym (rw c.entry_at-w.ensures at c.member_end-e.ensures) ∙ ap maybe_of c.in-Nothing.is),
+      (sym (rw c.entry_at-w.ensures at c.member_end-e.ensures) ∙ ap maybe_of c.in-None.is),
 )
 
 pub returns : goal.returns

@@ -10,14 +10,14 @@ use Rattle.keyparts.proofs.Finds.{follow_hit, follow_miss}
 use borrow.Author.Rules.{rules}
 use Rattle.keyparts.proofs.follow.follow_edge.Goals as goal
 
-pub returns-in-Just : goal.returns-in-Just
+pub returns-in-Some : goal.returns-in-Some
 unfolding follow_links events_of
-returns-in-Just c = let a = c.args in
+returns-in-Some c = let a = c.args in
     let h = rw (event_key a.key (search rules)) at c.linked_edge-k.ensures in
-    sym (follow_hit (linked_end (reached a.edges.now a.count) a.links.now a.node) (Key a.key) (class_events (memberships (classes_of a.classes.now a.entries) a.key)) _ (sym h ∙ ap maybe_of c.in-Just.is))
+    sym (follow_hit (linked_end (reached a.edges.now a.count) a.links.now a.node) (Key a.key) (class_events (memberships (classes_of a.classes.now a.entries) a.key)) _ (sym h ∙ ap maybe_of c.in-Some.is))
 
 pub returns : goal.returns
 unfolding follow_links events_of
 returns c = let a = c.args in
     let h = rw (event_key a.key (search rules)) at c.linked_edge-k.ensures in
-    c.follow_classes.ensures ∙ sym (follow_miss (linked_end (reached a.edges.now a.count) a.links.now a.node) (Key a.key) (class_events (memberships (classes_of a.classes.now a.entries) a.key)) (sym h ∙ ap maybe_of c.in-Nothing.is))
+    c.follow_classes.ensures ∙ sym (follow_miss (linked_end (reached a.edges.now a.count) a.links.now a.node) (Key a.key) (class_events (memberships (classes_of a.classes.now a.entries) a.key)) (sym h ∙ ap maybe_of c.in-None.is))

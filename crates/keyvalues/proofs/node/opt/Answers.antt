@@ -4,9 +4,9 @@ use Rattle.keyvalues.specs.View.{opt_of}
 use borrow.Author.Rules.{rules}
 use Rattle.keyvalues.proofs.node.opt.Goals as goal
 
-pub returns-in-Nothing : goal.returns-in-Nothing
+pub returns-in-None : goal.returns-in-None
 unfolding opt_of
-returns-in-Nothing c = (rw c.in-Nothing.is, search rules)
+returns-in-None c = (rw c.in-None.is, search rules)
 
-pub returns-in-Just : goal.returns-in-Just
-returns-in-Just c = (rw c.in-Just.is (opt_just _ (search rules)), search rules)
+pub returns-in-Some : goal.returns-in-Some
+returns-in-Some c = (rw c.in-Some.is (opt_just _ (search rules)), search rules)

@@ -2,10 +2,10 @@
 use Rattle.rules.specs.Basics.{present}
 use Rattle.keyvalues.proofs.step.mode_valid.Goals as goal
 
-pub returns-in-Nothing : goal.returns-in-Nothing
+pub returns-in-None : goal.returns-in-None
 unfolding present
-returns-in-Nothing c = rw c.in-Nothing.is
+returns-in-None c = rw c.in-None.is
 
-pub returns-in-Just : goal.returns-in-Just
+pub returns-in-Some : goal.returns-in-Some
 unfolding present
-returns-in-Just c = rw c.in-Just.is
+returns-in-Some c = rw c.in-Some.is

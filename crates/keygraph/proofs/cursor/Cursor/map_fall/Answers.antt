@@ -5,11 +5,11 @@ use Rattle.keyvalues.proofs.Words.{event_fall}
 use Rattle.keygraph.proofs.Binds.{leads_same}
 use Rattle.keygraph.proofs.cursor.Cursor.map_fall.Goals as goal
 
-pub returns-in-Just : goal.returns-in-Just
+pub returns-in-Some : goal.returns-in-Some
 unfolding map_fall
-returns-in-Just c = record { words_len = c.edge_to.ensures.words_len; leads = rw c.in-Just.is (rw event_fall at c.edge_to.ensures.leads) }
+returns-in-Some c = record { words_len = c.edge_to.ensures.words_len; leads = rw c.in-Some.is (rw event_fall at c.edge_to.ensures.leads) }
 
-pub returns-in-Nothing : goal.returns-in-Nothing
+pub returns-in-None : goal.returns-in-None
 unfolding map_fall
-returns-in-Nothing c = let a = c.args in
-    record { words_len = c.requires; leads = rw c.in-Nothing.is (leads_same (came_to a.words.now a.self)) }
+returns-in-None c = let a = c.args in
+    record { words_len = c.requires; leads = rw c.in-None.is (leads_same (came_to a.words.now a.self)) }

@@ -2,10 +2,10 @@
 use Rattle.rules.specs.KeyLoop.{override}
 use Rattle.keypairs.proofs.pair.Pair.overridden.Goals as goal
 
-pub returns-in-Nothing : goal.returns-in-Nothing
+pub returns-in-None : goal.returns-in-None
 unfolding override
-returns-in-Nothing c = rw c.in-Nothing.is
+returns-in-None c = rw c.in-None.is
 
-pub returns-in-By : goal.returns-in-By
+pub returns-in-Some : goal.returns-in-Some
 unfolding override
-returns-in-By c = rw (c.in-By.is, c.merge.ensures)
+returns-in-Some c = rw (c.in-Some.is, c.merge.ensures)

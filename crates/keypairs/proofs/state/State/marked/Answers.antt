@@ -2,10 +2,10 @@
 use Rattle.rules.specs.KeyLoop.{set_mark}
 use Rattle.keypairs.proofs.state.State.marked.Goals as goal
 
-pub returns-in-Nothing : goal.returns-in-Nothing
+pub returns-in-None : goal.returns-in-None
 unfolding set_mark
-returns-in-Nothing c = λ t q sq tr. rw c.in-Nothing.is
+returns-in-None c = λ t q sq tr. rw c.in-None.is
 
-pub returns-in-Just : goal.returns-in-Just
+pub returns-in-Some : goal.returns-in-Some
 unfolding set_mark
-returns-in-Just c = λ t q sq tr. rw c.in-Just.is
+returns-in-Some c = λ t q sq tr. rw c.in-Some.is

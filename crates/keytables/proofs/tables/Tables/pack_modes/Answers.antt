@@ -7,7 +7,7 @@ use native.Mathlib.Omega.{arith}
 use lib.ListN.{length, take, length-set}
 use borrow.Author.Rules.{rules}
 use Rattle.rules.specs.Tables.{mode_valid}
-use Rattle.keyvalues.specs.declared.step.Maybe.TheVariants.{Nothing}
+use Rattle.std.specs.Prelude.{None}
 use Rattle.keytables.specs.declared.tables.ModeEntry as raw
 use Rattle.keytables.specs.View.{whole_entry, entry_of, blocks}
 use Rattle.keyvalues.proofs.Ranges.{length-mapped}
@@ -17,7 +17,7 @@ use Rattle.keytables.proofs.tables.Tables.pack_modes.Goals as goal
 
 -- the entry that a place beyond the table would have
 abbrev z : raw.ModeEntry
-z = record { enter = record { items = []; count = 0 }; unmapped = record { items = []; count = 0 }; next = Nothing }
+z = record { enter = record { items = []; count = 0 }; unmapped = record { items = []; count = 0 }; next = None }
 
 pub loop-i-init : goal.loop-i-init
 loop-i-init c = (search rules, refl, search (rules, length-mapped), (refl, refl))
