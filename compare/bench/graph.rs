@@ -5,12 +5,11 @@ use std::hint::black_box;
 use crate::timing::{clock, compare, Times};
 
 extern "C" {
-    fn bench_index(words: *const [u64; WORDS], count: u16, links: *mut [u16; LINKS]);
+    fn bench_index(graph: *const Graph, links: *mut [u16; LINKS]);
     fn bench_follow(
-        words: *const [u64; WORDS],
-        count: u16,
+        graph: *const Graph,
         links: *const [u16; LINKS],
-        tables: *const [u64; TABLES],
+        tables: *const Tables,
         node: u16,
         key: u16,
     ) -> u16;
@@ -18,15 +17,16 @@ extern "C" {
     fn bench_add_by_value(n: u16) -> u16;
 }
 
-/// How many words a graph has, those of the edges in front.
-const WORDS: usize = 4_128;
+/// How many edges and nodes a graph has room for.
+const EDGES: usize = 2_048;
+const NODES: usize = 1_040;
 
 /// How many links an index has.
 const LINKS: usize = 2_304;
 
-/// How many words the tables have: the classes stand from the fourth on, and the first says how many there are.
-const TABLES: usize = 131;
-const CLASSES_AT: usize = 3;
+/// How many classes the tables have room for, and how many words stand behind these.
+const CLASSES: usize = 16;
+const OTHERS: usize = 114;
 
 /// A key that no edge takes.
 const NOBODYS: u16 = 60_000;
@@ -44,37 +44,51 @@ fn class(class: u64, low: u64, high: u64) -> u64 {
     class + 65_536 * (low + 65_536 * high)
 }
 
-/// Tables of these classes alone.
-fn tables(classes: &[u64]) -> [u64; TABLES] {
-    let mut words = [0; TABLES];
-    words[0] = classes.len() as u64;
-    words[CLASSES_AT..][..classes.len()].copy_from_slice(classes);
-    words
+/// The tables, as the key graph has them. Only the classes are filled.
+#[repr(C)]
+struct Tables {
+    class_count: u16,
+    classes: [u64; CLASSES],
+    others: [u64; OTHERS],
 }
 
-/// A graph's words, of which only the edges are filled, with the index of these.
+/// Tables of these classes alone.
+fn tables(classes: &[u64]) -> Tables {
+    let mut tables = Tables { class_count: classes.len() as u16, classes: [0; CLASSES], others: [0; OTHERS] };
+    tables.classes[..classes.len()].copy_from_slice(classes);
+    tables
+}
+
+/// A graph, as the key graph has it.
+#[repr(C)]
+struct Graph {
+    edges: [u64; EDGES],
+    nodes: [[u64; 2]; NODES],
+    node_count: u16,
+    edge_count: u16,
+}
+
+/// A graph of which only the edges are filled, with the index of these.
 struct Edges {
-    words: [u64; WORDS],
-    count: u16,
+    graph: Graph,
     links: [u16; LINKS],
 }
 
 impl Edges {
     fn new(edges: &[u64]) -> Self {
-        let count = edges.len() as u16;
-        let mut words = [0; WORDS];
-        words[..edges.len()].copy_from_slice(edges);
+        let mut graph = Graph { edges: [0; EDGES], nodes: [[0; 2]; NODES], node_count: 0, edge_count: edges.len() as u16 };
+        graph.edges[..edges.len()].copy_from_slice(edges);
         let mut links = [0; LINKS];
-        unsafe { bench_index(&words, count, &mut links) };
-        Self { words, count, links }
+        unsafe { bench_index(&graph, &mut links) };
+        Self { graph, links }
     }
 
-    fn follow_once(&self, tables: &[u64; TABLES], key: u16) -> u16 {
-        unsafe { bench_follow(&self.words, self.count, &self.links, tables, black_box(0), black_box(key)) }
+    fn follow_once(&self, tables: &Tables, key: u16) -> u16 {
+        unsafe { bench_follow(&self.graph, &self.links, tables, black_box(0), black_box(key)) }
     }
 
     /// Nanoseconds of a following from node 0.
-    fn follow(&self, tables: &[u64; TABLES], key: u16) -> Times {
+    fn follow(&self, tables: &Tables, key: u16) -> Times {
         const CALLS: usize = 20_000;
         let [times] = compare([&mut || {
             clock(|| {

@@ -1,21 +1,21 @@
 // Calls on a machine by value over the map of a map file.
-use keptcalls::call::BindingCall;
-use keygraph::find::Found;
-use keygraph::number;
-use keymachine::context::Context;
+use keptcalls::words::CallWords;
 use keymachine::machine::ModalMachine;
-use keymachine::pair::Pair;
 use keymachine::scanner::Scanner;
-use keymachine::tables::Tables;
-use keymachine::tracker::{SequenceTracker, Status};
+use keypairs::context::Context;
+use keypairs::pair::Pair;
+use keypairs::tracker::{SequenceTracker, Status};
+use keytables::tables::Tables;
+use keyvalues::refusal::Refusal;
 use mapfile::map;
 
-// The machine of a map file, with the words of its kept calls.
+// The machine of a map file, with its kept calls; the fresh one, where the file is refused.
 fn scanner_of(bytes: &[u8]) -> Scanner {
-    let mut kept = [0u64; BindingCall::ALL_WORDS];
-    let r = map::read_map(bytes, &mut kept);
-    let map = r.map;
-    let machine = ModalMachine::over(map);
+    let mut kept = [CallWords::EMPTY; CallWords::KEPT as usize];
+    let machine = match map::read_map(bytes, &mut kept) {
+        Ok(map) => ModalMachine::over(map),
+        Err(_) => ModalMachine::fresh(),
+    };
     Scanner {
         machine: machine,
         kept: kept,
@@ -24,70 +24,59 @@ fn scanner_of(bytes: &[u8]) -> Scanner {
 
 // The machine alone.
 fn machine_of(bytes: &[u8]) -> ModalMachine {
-    let s = scanner_of(bytes);
-    s.machine
+    scanner_of(bytes).machine
 }
 
 // By value: a call for each key, and pops up to the one that gives nothing.
 pub fn bench_keys_by_value<'a>(bytes: &'a [u8], keys: &'a [u16], budget: u16) -> u64 {
     let mut m = machine_of(bytes);
     let mut sum = 0u64;
-    let mut i = 0usize;
-    while i < keys.len() {
-        let k = m.input_key(keys[i], budget);
-        let pressed = k.machine;
-        m = pressed;
-        let mut left = Pair::QUEUE + 1;
-        while 0 < left {
-            let p = m.pop();
-            let popped = p.machine;
-            m = popped;
-            let answer = p.answer;
-            match answer {
-                Some(pair) => {
-                    sum = benchkeys::mix(sum, pair);
-                }
-                None => break,
-            }
-            left = left - 1;
+    for key in keys {
+        m = m.input_key(*key, budget).0;
+        for _ in 0..=Pair::QUEUE {
+            let (after, popped) = m.pop();
+            m = after;
+            let Some(pair) = popped else {
+                break;
+            };
+            sum = benchkeys::mix(sum, pair);
         }
-        i = i + 1;
     }
     sum
 }
 
+// What find gives where there is no such node, and where it is refused.
+const NO_NODE: u16 = 65534;
+
+const REFUSED: u16 = 65535;
+
 // The node that find gave.
-fn node_of(found: Found) -> u16 {
+fn node_of(found: Result<Option<u16>, Refusal>) -> u16 {
     match found {
-        Found::At(node) => node,
-        Found::Nothing => 65534,
-        Found::Refused(_) => 65535,
+        Ok(Some(node)) => node,
+        Ok(None) => NO_NODE,
+        Err(_) => REFUSED,
     }
 }
 
 // How many pairs a sequence by value remembers, of one that was pushed to a fresh one.
 fn remembered() -> u16 {
-    let fresh = SequenceTracker::fresh();
-    let pushed = fresh.push(Status::Track, Pair::default());
-    let tracker = pushed.tracker;
-    let fetched = tracker.fetch(Some(Context { count: 5, mark: 6 }));
-    fetched.answer
+    let (tracker, _) = SequenceTracker::fresh().push(Status::Track, Pair::default());
+    tracker.fetch(Some(Context { count: 5, mark: 6 })).1
 }
 
 // Every other call by value, once, for the stack that they use. The answer is the node of a mapping that was added, the
 // nodes that are left above it, and the pairs of a sequence above those.
 pub fn bench_other_calls(bytes: &[u8]) -> u64 {
     let s = scanner_of(bytes);
-    let mapped = s.add_mapping(1, crate::two_keys(1, 2), crate::one_action(3));
-    let a = mapped.scanner;
-    let prefixed = a.add_prefix(2, crate::two_keys(1, 2), true, crate::one_action(3));
-    let b = prefixed.scanner.machine;
-    let repeated = b.repeat(0, Some(Context { count: 5, mark: 6 }));
-    let c = repeated.machine;
-    let reset = c.reset_mode();
-    let d = reset.machine;
-    let found = d.find(1, 3);
-    let left = d.free_nodes();
+    let (mapped, _) = s.add_mapping(1, crate::two_keys(1, 2), crate::one_action(3));
+    let (prefixed, _) = mapped.add_prefix(2, crate::two_keys(1, 2), Some(crate::one_action(3)));
+    let (repeated, _) = prefixed
+        .machine
+        .repeat(0, Some(Context { count: 5, mark: 6 }));
+    let (reset, _) = repeated.reset_mode();
+    let found = reset.find(1, 3);
+    let left = reset.free_nodes();
     let pairs = remembered();
     ((pairs as u64) * 65536 + (left as u64)) * 65536 + (node_of(found) as u64)
 }
@@ -98,99 +87,73 @@ fn stir(sum: u64, word: u16) -> u64 {
 }
 
 // A call by value so many times, for its time, each on the machine that the one before handed back. What would make a later
-// call do less is put back before it. Here a mapping of two keys, bound again and again.
-pub fn bench_mappings(bytes: &[u8], times: u16) -> u64 {
-    let mut s = scanner_of(bytes);
+// call do less is put back before it. A word of what each leaves is stirred in.
+fn repeated<F: FnMut(u16) -> u16>(times: u16, mut call: F) -> u64
+    requires { F.IsAlwaysCallable call }
+{
     let mut sum = 0u64;
-    let mut i = 0u16;
-    while i < times {
-        s.machine.map.kept = 0;
-        let r = s.add_mapping(1, crate::two_keys(1, 2), crate::one_action(i));
-        let next = r.scanner;
-        s = next;
-        sum = stir(sum, s.machine.map.graph.counts.nodes);
-        i = i + 1;
+    for i in 0..times {
+        sum = stir(sum, call(i));
     }
     sum
+}
+
+// A mapping of two keys, bound again and again.
+pub fn bench_mappings(bytes: &[u8], times: u16) -> u64 {
+    let mut s = scanner_of(bytes);
+    repeated(times, |i| {
+        s.machine.map.kept = 0;
+        s = s
+            .add_mapping(1, crate::two_keys(1, 2), crate::one_action(i))
+            .0;
+        s.machine.map.graph.counts.nodes
+    })
 }
 
 // A prefix of two keys without a step, bound again and again.
 pub fn bench_prefixes(bytes: &[u8], times: u16) -> u64 {
     let mut s = scanner_of(bytes);
-    let mut sum = 0u64;
-    let mut i = 0u16;
-    while i < times {
+    repeated(times, |_| {
         s.machine.map.kept = 0;
-        let r = s.add_prefix(1, crate::two_keys(1, 2), false, crate::one_action(i));
-        let next = r.scanner;
-        s = next;
-        sum = stir(sum, s.machine.map.graph.counts.nodes);
-        i = i + 1;
-    }
-    sum
+        s = s.add_prefix(1, crate::two_keys(1, 2), None).0;
+        s.machine.map.graph.counts.nodes
+    })
 }
 
 // Keys, of which most have no binding, on an empty queue.
 pub fn bench_inputs(bytes: &[u8], times: u16) -> u64 {
     let mut m = machine_of(bytes);
-    let mut sum = 0u64;
-    let mut i = 0u16;
-    while i < times {
+    repeated(times, |i| {
         m.live.state.queued = 0;
-        let r = m.input_key(i, 1000);
-        let next = r.machine;
-        m = next;
-        sum = stir(sum, m.live.state.queued);
-        i = i + 1;
-    }
-    sum
+        m = m.input_key(i, 1000).0;
+        m.live.state.queued
+    })
 }
 
 // Repeats of 64 pairs, overridden, on an empty queue.
 pub fn bench_repeats(bytes: &[u8], times: u16) -> u64 {
     let mut m = machine_of(bytes);
-    let mut live = m.live;
-    live.sequences[0] = 128;
-    m.live = live;
-    let mut sum = 0u64;
-    let mut i = 0u16;
-    while i < times {
+    m.live.sequences[0].head = 128;
+    repeated(times, |i| {
         m.live.state.queued = 0;
-        let r = m.repeat(0, Some(Context { count: i, mark: 6 }));
-        let next = r.machine;
-        m = next;
-        sum = stir(sum, m.live.state.queued);
-        i = i + 1;
-    }
-    sum
+        m = m.repeat(0, Some(Context { count: i, mark: 6 })).0;
+        m.live.state.queued
+    })
 }
 
 // Resets.
 pub fn bench_resets(bytes: &[u8], times: u16) -> u64 {
     let mut m = machine_of(bytes);
-    let mut sum = 0u64;
-    let mut i = 0u16;
-    while i < times {
-        let r = m.reset_mode();
-        let next = r.machine;
-        m = next;
-        sum = stir(sum, m.live.state.queued);
-        i = i + 1;
-    }
-    sum
+    repeated(times, |_| {
+        m = m.reset_mode().0;
+        m.live.state.queued
+    })
 }
 
 // Finds, mostly of an action that no step has.
 pub fn bench_finds(bytes: &[u8], times: u16) -> u64 {
-    let mut m = machine_of(bytes);
-    let mut sum = 0u64;
-    let mut i = 0u16;
-    while i < times {
-        let found = m.find(0, i);
-        sum = stir(sum, node_of(found));
-        i = i + 1;
-    }
-    sum
+    let m = machine_of(bytes);
+    repeated(times, |i| node_of(m.find(0, i)))
 }
 
 // Openings with 16 modes, 64 rules and 0 to 16 classes.
@@ -199,17 +162,9 @@ pub fn bench_opens(times: u16) -> u64 {
     tables.sizes.modes = 16;
     tables.sizes.rules = 64;
     let mut m = ModalMachine::fresh();
-    let mut sum = 0u64;
-    let mut i = 0u16;
-    while i < times {
-        let classes = i % 17;
-        tables.sizes.classes = classes;
-        let r = m.open(tables);
-        let next = r.machine;
-        m = next;
-        let kept = m.map.tables;
-        sum = stir(sum, number::low(kept.words[0]));
-        i = i + 1;
-    }
-    sum
+    repeated(times, |i| {
+        tables.sizes.classes = i % 17;
+        m = m.open(tables).0;
+        m.map.tables.class_count
+    })
 }

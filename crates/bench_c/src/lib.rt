@@ -1,35 +1,24 @@
 // The archive of `bench`, for the benchmark to link.
 #![tactic(auto)]
 
-ghost use Rattle.std.specs.Prelude.{◌≡◌, length};
-
-use keygraph::graph::Graph;
-use keygraph::index::Index;
-use keygraph::tables::TableWords;
+use keyparts::graph::Graph;
+use keyparts::index::Index;
+use keyvalues::tables::TableWords;
 
 #[unsafe(no_mangle)]
-pub extern "C" fn bench_index(
-    words: &[u64; Graph::WORDS],
-    count: u16,
-    links: &mut [u16; Index::LINKS],
-)
-    requires { length words.now ≡ 4128 }
-{
-    bench::bench_index(words, count, links);
+pub extern "C" fn bench_index(graph: &Graph, index: &mut Index) {
+    bench::bench_index(graph, index);
 }
 
 #[unsafe(no_mangle)]
 pub extern "C" fn bench_follow<'a>(
-    words: &'a [u64; Graph::WORDS],
-    count: u16,
-    links: &'a [u16; Index::LINKS],
-    tables: &'a [u64; TableWords::WORDS],
+    graph: &'a Graph,
+    index: &'a Index,
+    tables: &'a TableWords,
     node: u16,
     key: u16,
-) -> u16
-    requires { (length words.now ≡ 4128) × (length links.now ≡ 2304) × (length tables.now ≡ 131) }
-{
-    bench::bench_follow(words, count, links, tables, node, key)
+) -> u16 {
+    bench::bench_follow(graph, index, tables, node, key)
 }
 
 #[unsafe(no_mangle)]

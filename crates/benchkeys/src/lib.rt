@@ -5,17 +5,12 @@
 // nobody times other work than the Rust's.
 #![tactic(auto)]
 
-ghost use Rattle.std.specs.Prelude.{◌≡◌, length};
-
-use keptcalls::call::BindingCall;
-use keygraph::graph::{Counts, Graph};
-use keygraph::index::Index;
-use keygraph::layout;
-use keygraph::tables::TableWords;
+use keptcalls::words::CallWords;
 use keyloop::key;
+use keyloop::key::IndexedMap;
+use keypairs::live::Live;
 use keypairs::pair::Pair;
-use keypairs::state::State;
-use keypairs::tracker::SequenceTracker;
+use keyparts::index::Index;
 use mapfile::map;
 
 // A pair more.
@@ -27,75 +22,35 @@ pub fn mix(sum: u64, pair: Pair) -> u64 {
     count * 4294967296 + mixed % 4294967296
 }
 
-// The first `queued` words of the queue.
-fn mix_queue(queue: &[u64], queued: u16, start: u64) -> u64 {
-    let mut sum = start;
-    let mut i = 0usize;
-    while i < queue.len() {
-        if (queued as usize) <= i {
-            return sum;
-        }
-        let pair = Pair::unpack(queue[i]);
-        sum = mix(sum, pair);
-        i = i + 1;
-    }
-    sum
-}
-
-// In place: the key loop on lent arrays, as the run has it. A key that is refused ends it, with the pairs before it.
-fn keys_over<'a>(
-    keys: &[u16],
-    words: &'a [u64; Graph::WORDS],
-    counts: Counts,
-    links: &'a [u16; Index::LINKS],
-    tables: &'a [u64; TableWords::WORDS],
-    budget: u16,
-) -> u64
-    requires { (length words.now ≡ 4128) × (length links.now ≡ 2304) × (length tables.now ≡ 131) }
-{
-    let mut queue = [0u64; Pair::QUEUE as usize];
-    let mut sequences = [0u64; SequenceTracker::ALL];
-    let mut trail = [0u16; State::TRAIL as usize];
-    let mut state = State::fresh();
+// In place: the key loop on a live state, as the run has it. A key that is refused ends it, with the pairs before it.
+fn keys_over(keys: &[u16], map: &IndexedMap, budget: u16) -> u64 {
+    let mut live = Live::fresh();
     let mut sum = 0u64;
-    let mut i = 0usize;
-    while i < keys.len() {
-        let pressed = keys[i];
-        i = i + 1;
-        let k = key::input_key_or_scratch(
-            words,
-            counts,
-            links,
-            tables,
-            &mut queue,
-            &mut sequences,
-            &mut trail,
-            state,
-            pressed,
-            budget,
-        );
-        if k.refusal != 0 {
+    for key in keys {
+        let (_, answer) = key::input_key_or_scratch(map, &mut live, *key, budget);
+        if answer.is_err() {
             return sum;
         }
-        let mut s = k.state;
-        sum = mix_queue(&queue, s.queued, sum);
-        s.queued = 0;
-        state = s;
+        for word in live.waiting() {
+            sum = mix(sum, Pair::unpack(*word));
+        }
+        live.state.queued = 0;
     }
     sum
 }
 
 pub fn bench_keys_in_place<'a>(bytes: &'a [u8], keys: &'a [u16], budget: u16) -> u64 {
-    let mut kept = [0u64; BindingCall::ALL_WORDS];
-    let m = map::read_map(bytes, &mut kept);
-    let counts = m.map.graph.counts;
-    let index = layout::index_of(&m.map.graph.words, counts.edges);
-    keys_over(
-        keys,
-        &m.map.graph.words,
-        counts,
-        &index.links,
-        &m.map.tables.words,
-        budget,
-    )
+    let mut kept = [CallWords::EMPTY; CallWords::KEPT as usize];
+    match map::read_map(bytes, &mut kept) {
+        Ok(read) => {
+            let index = Index::new(&read.graph);
+            let map = IndexedMap {
+                graph: &read.graph,
+                index: &index,
+                tables: &read.tables,
+            };
+            keys_over(keys, &map, budget)
+        }
+        Err(_) => 0,
+    }
 }

@@ -2,86 +2,52 @@
 // number could not be 65,537, the least length that a program refuses.)
 #![tactic(auto)]
 
-ghost use Rattle.std.specs.Prelude.{◌<◌, length};
-ghost use Rattle.framed.specs.Frames.{FrameFits};
+ghost use Rattle.std.specs.Prelude.{◌<◌, length, IfSome};
+ghost use Rattle.std.specs.Iterator.{at_most};
 
-use mapfile::number;
-use mapfile::number::Read;
-pub use playback::read_full;
+use mapparts::reader::Reader;
 use std::io;
 use std::io::Write;
 
-// The program whose inputs they are.
-#[derive(Clone, Copy)]
-pub enum Player {
-    Keyplay,
-    Callplay,
-}
-
-// Where an input stands.
-#[derive(Clone, Copy)]
-enum Frame {
-    Whole { start: usize, end: usize },
-    Broken,
-}
-
-// The bytes after the two numbers.
-fn frame_of(s: &[u8], at: usize, start: usize, a: u16, b: u16) -> Frame
-    requires { at < start }
-    ensures { FrameFits at (length s.now) result }
+// The first frame's bytes, and the bytes behind it.
+#[tactic(auto, using(mapparts::proofs::KeyBytes::shorter))]
+fn split_frame(s: &[u8]) -> Option<(&[u8], &[u8])>
+    ensures { IfSome result (λ p. length p.1.now < length s.now) }
 {
-    let size = (a as usize) + (b as usize);
-    if s.len() < start {
-        return Frame::Broken;
-    }
-    if s.len() - start < size {
-        return Frame::Broken;
-    }
-    Frame::Whole {
-        start: start,
-        end: start + size,
+    let mut reader = Reader { rest: s };
+    let a = reader.number().ok()?;
+    let b = reader.number().ok()?;
+    let (input, rest) = reader.rest.split_at_checked(a as usize + b as usize)?;
+    Some((input, rest))
+}
+
+// The inputs in these bytes, up to a frame that is not whole.
+#[derive(Drop)]
+struct Frames<'a>(&'a [u8]);
+
+impl<'a> Iterator for Frames<'a> {
+    type Item = &'a [u8];
+
+    ghost remaining = { λ f. at_most (length f.0.now) };
+
+    fn next(&mut self) -> Option<&'a [u8]> {
+        let (input, rest) = split_frame(self.0)?;
+        self.0 = rest;
+        Some(input)
     }
 }
 
-fn frame_at(s: &[u8], at: usize) -> Frame
-    ensures { FrameFits at (length s.now) result }
+// A line `--` stands before each answer.
+pub fn cases<W: Write, F: FnMut(&mut W, &[u8]) -> io::Result<()>>(
+    out: &mut W,
+    s: &[u8],
+    mut play: F,
+) -> io::Result<()>
+    requires { F.IsAlwaysCallable play }
 {
-    let first = number::read_number(s, at);
-    match first {
-        Read::Bad => return Frame::Broken,
-        Read::Number { value: a, next } => {
-            let second = number::read_number(s, next);
-            match second {
-                Read::Bad => return Frame::Broken,
-                Read::Number {
-                    value: b,
-                    next: start,
-                } => return frame_of(s, at, start, a, b),
-            }
-        }
-    }
-}
-
-fn answer<W: Write>(out: &mut W, input: &[u8], player: Player) -> io::Result<()> {
-    match player {
-        Player::Keyplay => playback::answer(out, input),
-        Player::Callplay => playcalls::answer(out, input),
-    }
-}
-
-// A line `--` stands before each answer; a frame that is not whole ends the play.
-pub fn cases<W: Write>(out: &mut W, s: &[u8], player: Player) -> io::Result<()> {
-    let mut at = 0usize;
-    while at < s.len() {
-        let f = frame_at(s, at);
-        match f {
-            Frame::Broken => return Ok(()),
-            Frame::Whole { start, end } => {
-                out.write_all(b"--\n")?;
-                answer(out, &s[start..end], player)?;
-                at = end;
-            }
-        }
+    for input in Frames(s) {
+        writeln!(out, "--")?;
+        play(out, input)?;
     }
     Ok(())
 }

@@ -8,8 +8,8 @@ use mathlib.Core.Option.{some}
 use native.Mathlib.Omega.{arith}
 use native.Mathlib.Numerals.{add-one}
 use lib.Dec.{eqb, leb}
-use lib.ListN.{length, take, set, get_or, length-map, length-set}
-use lib.Seq.{take-suc, take-suc-set, take-set-le, get_or-set_same, get_or-set_other, append_snoc}
+use lib.ListN.{length, take, set, get_or, length-map}
+use lib.Seq.{take-suc, take-suc-set, append_snoc}
 use borrow.Author.Tests.{ltb-true, leb-true}
 use Rattle.rules.specs.Basics.{every, present}
 use Rattle.rules.specs.Values.{is_mode, is_mark, Key, Class, Any, Fallthrough, Repeat, Once, Min, Max, Part, Step, repeat_valid, event_valid, part_valid, path_valid, step_valid, map_valid, prefix_valid, binding_valid}
@@ -20,8 +20,7 @@ use Rattle.keyvalues.specs.declared.path.EdgePath.{EdgePath}
 use Rattle.keyvalues.specs.declared.step.Step as st
 use Rattle.keyvalues.specs.View.{part_of, whole_path, whole_step, maybe_of, fit, no_part, four_of, call_of}
 use Rattle.keyvalues.proofs.Ranges.{raw_part, take-map, fit_take, fit_length}
-use Rattle.keptcalls.specs.declared.call.BindingCall.{BindingCall}
-use Rattle.keptcalls.specs.View.{binding_of, event_by, repeat_by, part_at, cut_repeat, cut_part, parts_in, step_at, call_by, call_at}
+use Rattle.keptcalls.specs.View.{event_by, repeat_by, part_at, cut_repeat, cut_part, parts_in, step_at, call_by}
 
 -- ---- parts
 
@@ -196,12 +195,6 @@ step_back s flag next fall mark w l hf hn hl hm xf xn xl xm xw h =
 
 -- ---- the call
 
-pub kind_over : (n : ℕ) → 2 ≤ n → (mode : ℕ) (path : List Part) (s : Step) → call_of 2 mode path s ≡ call_of n mode path s
-unfolding call_of
-kind_over zero h mode path s = absurd (omega arith)
-kind_over (suc zero) h mode path s = absurd (omega arith)
-kind_over (suc (suc n)) h mode path s = refl
-
 head_word : (ps : List ℕ) (kind mode count step w : ℕ) → kind < 4 → mode < 16 → count < 64
     → call_by ps (kind + 4 * (mode + 16 * (count + 64 * step))) w ≡ call_of kind mode (take count (parts_in ps)) (step_at step w)
 unfolding call_by
@@ -233,31 +226,13 @@ same_call (suc (suc n)) mode path path₁ s s₁ xp xs h =
     let b = and_r (is_mode mode) (path_valid path && step_valid s) h in
     rw (e, xp (and_l (path_valid path) (step_valid s) b), xs (and_r (path_valid path) (step_valid s) b))
 
-pub call_back : (c : BindingCall) (kind step : ℕ) (ps : List ℕ) (w : ℕ) → length c.path.parts ≡ 32 → kind < 4
-    → ((mode : ℕ) (path : List Part) (s : Step) → call_of kind mode path s ≡ call_of c.kind mode path s)
-    → (step_valid (whole_step c.step) ≡ true → step_at step w ≡ whole_step c.step)
-    → parts_in ps ≡ map cut_part (map part_of c.path.parts)
-    → binding_valid (binding_of c) ≡ true
-    → call_by ps (kind + 4 * (c.mode % 16 + 16 * (c.path.count % 64 + 64 * step))) w ≡ binding_of c
-call_back c kind step ps w l hk xk xs e h =
-    let m : c.mode % 16 < 16 = omega arith in
-    let n : c.path.count % 64 < 64 = omega arith in
-    head_word ps kind (c.mode % 16) (c.path.count % 64) step w hk m n
-    ∙ xk (c.mode % 16) (take (c.path.count % 64) (parts_in ps)) (step_at step w)
-    ∙ same_call c.kind c.mode (whole_path c.path) (take (c.path.count % 64) (parts_in ps)) (whole_step c.step) (step_at step w) (path_back c.path ps l e) xs h
-
--- the last two of the 18 words
-pub call_words : (b : List ℕ) (h w : ℕ) → length b ≡ 18 → call_at (set (set b 16 h) 17 w) ≡ call_by (take 16 b) h w
-unfolding call_at
-call_words b h w l =
-    let k : 17 < length (set b 16 h) = omega (arith, length-set b 16 h) in
-    let m : 16 < length b = omega arith in
-    let x : 16 ≤ 17 = omega arith in
-    let y : 16 ≤ 16 = omega arith in
-    rw (
-      take-set-le 16 (set b 16 h) 17 w x,
-      take-set-le 16 b 16 h y,
-      get_or-set_same (set b 16 h) 17 w 0 k,
-      get_or-set_other (set b 16 h) 17 16 w 0 (λ (z : 16 ≡ 17). omega arith),
-      get_or-set_same b 16 h 0 m,
-    )
+pub call_back : (kind mode : ℕ) (path : EdgePath) (s : st.Step) (step : ℕ) (ps : List ℕ) (w : ℕ) → length path.parts ≡ 32 → kind < 4
+    → (step_valid (whole_step s) ≡ true → step_at step w ≡ whole_step s)
+    → parts_in ps ≡ map cut_part (map part_of path.parts)
+    → binding_valid (call_of kind mode (whole_path path) (whole_step s)) ≡ true
+    → call_by ps (kind + 4 * (mode % 16 + 16 * (path.count % 64 + 64 * step))) w ≡ call_of kind mode (whole_path path) (whole_step s)
+call_back kind mode path s step ps w l hk xs e h =
+    let m : mode % 16 < 16 = omega arith in
+    let n : path.count % 64 < 64 = omega arith in
+    head_word ps kind (mode % 16) (path.count % 64) step w hk m n
+    ∙ same_call kind mode (whole_path path) (take (path.count % 64) (parts_in ps)) (whole_step s) (step_at step w) (path_back path ps l e) xs h

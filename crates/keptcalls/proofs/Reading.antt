@@ -1,13 +1,14 @@
--- The words of a kept call are a block of all words, and a part of its path is one half of a word.
+-- A part of a kept call's path is one half of a word.
 use Prim.Native.Nat.{ℕ, zero, suc, ◌+◌, ◌*◌, ◌/◌, ◌%◌, ◌<◌}
 use native.Mathlib.Omega.{arith}
-use mathlib.Core.Path.{◌≡◌, refl, ap, ◌∙◌}
-use mathlib.Core.List.{List, [], ◌∷◌}
-use lib.ListN.{length, take, get_or, length-take, length-drop}
-use lib.Seq.{get_or-take}
+use mathlib.Core.Path.{◌≡◌, refl, ◌∙◌}
+use mathlib.Core.List.{List, [], ◌∷◌, map, map-append}
+use native.Mathlib.Numerals.{add-one}
+use lib.ListN.{length, take, set, get_or}
+use lib.Seq.{take-suc, take-suc-set}
 use Rattle.rules.specs.Values.{Part}
-use Rattle.keytables.specs.View.{blocks}
-use Rattle.keytables.proofs.Blocks.{get_d_blocks, blocks_word}
+use Rattle.keyvalues.specs.declared.path.EdgePathPart.{EdgePathPart}
+use Rattle.keyvalues.specs.View.{part_of}
 use Rattle.keptcalls.specs.View.{part_at, parts_in, half_of}
 
 -- ---- parts
@@ -27,23 +28,10 @@ parts_at (w ∷ ps) (suc (suc i)) d h =
     let r : suc (suc i) % 2 ≡ i % 2 = omega arith in
     parts_at ps i d (omega arith) ∙ rw (q, r)
 
--- ---- the words of a call
-
-module _ (ws : List ℕ) (all : length ws ≡ 18432) (i : ℕ) (h : i < 1024) where
-  abbrev pub block : List ℕ
-  block = get_or (blocks 18 1024 ws) i []
-
-  pub part_words : length (take 16 block) ≡ 16
-  part_words =
-      let e = get_d_blocks 18 1024 ws i h in
-      ap (λ b. length (take 16 b)) e ∙ simp (length-take, length-drop) (omega arith)
-
-  pub call_word : (j : ℕ) → j < 18 → get_or block j 0 ≡ get_or ws (i * 18 + j) 0
-  call_word j k = blocks_word 18 1024 ws i j 0 h k
-
-  pub part_word : (j : ℕ) → j < 16 → get_or (take 16 block) j 0 ≡ get_or ws (i * 18 + j) 0
-  part_word j k = get_or-take 16 block j 0 k ∙ call_word j (omega arith)
-
-  -- a part, as the code reads it
-  pub call_part : (j : ℕ) (d : Part) → j < 32 → get_or (parts_in (take 16 block)) j d ≡ part_at (half_of j (get_or ws (i * 18 + j / 2) 0))
-  call_part j d k = parts_at (take 16 block) j d (omega (arith, part_words)) ∙ ap (λ w. part_at (half_of j w)) (part_word (j / 2) (omega arith))
+-- a turn of the loop over the parts
+pub parts_more : (ws : List ℕ) (ps : List EdgePathPart) (i : ℕ) (p : EdgePathPart) → i < length ps → i < 2 * length ws → map part_of (take i ps) ≡ take i (parts_in ws)
+    → part_of p ≡ part_at (half_of i (get_or ws (i / 2) 0))
+    → map part_of (take (i + 1) (set ps i p)) ≡ take (i + 1) (parts_in ws)
+parts_more ws ps i p h k e q =
+    let l : i < length (parts_in ws) = omega (arith, length-parts ws) in
+    rw (add-one i, take-suc-set ps i p h, map-append part_of (take i ps) (p ∷ []), e, take-suc (parts_in ws) i (part_of p) l, parts_at ws i (part_of p) k, q)

@@ -1,22 +1,22 @@
 -- What the words of kept calls mean, in the values of the rules. Any 18 words are some call: 16 with two parts each, one with
 -- the small numbers of the call and its step, one with the step's actions.
-use Rattle.std.specs.Prelude.{ℕ, ◌/◌, ◌%◌, ◌≡◌, List, [], ◌∷◌, map, eqb, take, get_or, if◌then◌else◌}
-use Rattle.rules.specs.Basics.{Result, ◌>>=◌, unless}
+use Rattle.std.specs.Prelude.{ℕ, ◌/◌, ◌%◌, List, [], ◌∷◌, map, eqb, take, if◌then◌else◌}
+use Rattle.rules.specs.Basics.{Result, unless}
 use Rattle.rules.specs.Values as v
 use Rattle.rules.specs.Graph.{Graph, add_mapping, add_prefix}
 use Rattle.rules.specs.KeyLoop.{State}
-use Rattle.rules.specs.Calls.{Machine, graph_kind, keep}
+use Rattle.rules.specs.Calls.{Machine, graph_kind}
 use Rattle.rules.specs.MapFile.{optional, optional_mark}
-use Rattle.keyvalues.specs.declared.answer.Answer.{Answer}
-use Rattle.keyvalues.specs.View.{four_of, whole_path, whole_step, call_of, result_by}
-use Rattle.keytables.specs.View.{blocks}
-use Rattle.keptcalls.specs.declared.call.BindingCall.{BindingCall}
-use Rattle.keptcalls.specs.declared.read.CallHead.{CallHead}
+use Rattle.keyvalues.specs.View.{four_of, whole_path, whole_step, whole_steps, call_of}
+use Rattle.keptcalls.specs.declared.binding.Binding.{Binding}
+use Rattle.keptcalls.specs.declared.binding.Binding.TheVariants.{Mapping, Prefix}
+use Rattle.keptcalls.specs.declared.words.CallWords.{CallWords}
 
 -- ---- a call by value
 
-abbrev pub binding_of : BindingCall → v.Binding
-binding_of c = call_of c.kind c.mode (whole_path c.path) (whole_step c.step)
+abbrev pub binding_in : Binding → v.Binding
+binding_in (Mapping mode path step) = v.Maps mode (whole_path path) (whole_step step)
+binding_in (Prefix mode path step) = v.Prefixes mode (whole_path path) (whole_steps step)
 
 -- ---- parts
 
@@ -63,12 +63,12 @@ step_at h w = record {
 unfoldable pub call_by : List ℕ → ℕ → ℕ → v.Binding
 call_by ps h w = call_of (h % 4) (h / 4 % 16) (take (h / 4 / 16 % 64) (parts_in ps)) (step_at (h / 4 / 16 / 64) w)
 
-unfoldable pub call_at : List ℕ → v.Binding
-call_at ws = call_by (take 16 ws) (get_or ws 16 0) (get_or ws 17 0)
+abbrev pub call_in : CallWords → v.Binding
+call_in w = call_by w.parts w.head w.actions
 
--- the first n of the 1,024 calls that the words have room for
-unfoldable pub calls_in : ℕ → List ℕ → List v.Binding
-calls_in n ws = map call_at (take n (blocks 18 1024 ws))
+-- the first n calls
+unfoldable pub kept_in : ℕ → List CallWords → List v.Binding
+kept_in n ws = map call_in (take n ws)
 
 -- ---- a call kept
 
@@ -80,26 +80,8 @@ unfoldable pub graph_part : v.Binding → Graph → Result Graph
 graph_part (v.Maps mode path st) g = unless (v.map_valid mode path st) 1 (add_mapping mode path st g)
 graph_part (v.Prefixes mode path st) g = unless (v.prefix_valid mode path st) 1 (add_prefix mode path st g)
 
--- After a binding call was answered and left the graph g, keeping it comes to the answer `told`, with the calls `after`.
--- Before it the machine had the graph g₀ and the calls `before`.
-pub record Keeps (answer : Answer) (g g₀ : Graph) (x : State ℕ) (call : v.Binding) (before : List v.Binding) (told : Answer) (after : List v.Binding) : Type 0 where
-  pub is : result_by told (machine_with g after x) ≡ (result_by answer g >>= keep graph_kind call (machine_with g₀ before x))
-
 -- ---- reading
 
 -- the half of a word that a part has: the lower one, if its number is even
 unfoldable pub half_of : ℕ → ℕ → ℕ
 half_of i w = if eqb (i % 2) 0 then w % 4294967296 else w / 4294967296
-
-abbrev pub step_by : CallHead → ℕ → v.Step
-step_by c w = record {
-  flag = c.flag;
-  actions = take c.count (four_of w);
-  next = optional c.next;
-  fallthrough = optional c.fallthrough;
-  mark = optional_mark c.mark;
-}
-
--- the call of the small numbers, the words of parts and the word of actions
-abbrev pub call_from : CallHead → List ℕ → ℕ → v.Binding
-call_from c ps w = call_of c.kind c.mode (take c.parts (parts_in ps)) (step_by c w)

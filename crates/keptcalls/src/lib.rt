@@ -1,7 +1,7 @@
 // The binding calls that a machine keeps, in words: how a call is packed, kept behind those before it, and read again.
 #![tactic(auto)]
 
-pub mod call;
-pub mod keep;
+pub mod binding;
 mod pack;
-pub mod read;
+mod unpack;
+pub mod words;

@@ -1,18 +1,18 @@
-// The map of a machine: its graph, its tables and how many binding calls are kept. The kept calls' words stand beside the
-// machine and are lent to each call, so that nothing else copies them.
-ghost use Rattle.std.specs.Prelude.{◌≡◌, List, ℕ, length};
-ghost use Rattle.rules.specs.Values.{Part, Step as Does, Prefixes};
+// The map of a machine: its graph, its tables and how many binding calls are kept. The kept calls stand beside the machine and
+// are lent to each call, so that nothing else copies them.
+ghost use Rattle.std.specs.Prelude.{◌≡◌, ℕ};
 ghost use Rattle.rules.specs.KeyLoop.{State};
 ghost use Rattle.rules.specs.Calls.{graph_kind, call, bind, settled, Map as Mapping, Prefix};
-ghost use Rattle.keyvalues.specs.View.{whole_path, whole_step, chosen_of, call_of, answer_of};
-ghost use Rattle.keptcalls.specs.View.{binding_of};
-ghost use Rattle.keybind.specs.View.{map_with};
+ghost use Rattle.keyvalues.specs.View.{whole_path, whole_step, whole_steps};
+ghost use Rattle.keptcalls.specs.View.{binding_in};
+ghost use Rattle.keybind.specs.View.{map_kept, answered};
 
-use crate::bind;
-use keptcalls::call::BindingCall;
+use crate::lent;
+use keptcalls::binding::Binding;
+use keptcalls::words::CallWords;
 use keyparts::graph::Graph;
-use keyvalues::answer::Answer;
 use keyvalues::path::EdgePath;
+use keyvalues::refusal::Refusal;
 use keyvalues::step::Step;
 use keyvalues::tables::TableWords;
 
@@ -24,90 +24,59 @@ pub struct Map {
     pub kept: u16,
 }
 
-// The map after a binding call, and the call's answer.
-#[derive(Clone, Copy)]
-pub struct MapResult {
-    pub map: Map,
-    pub answer: Answer,
-}
-
-// One binding call more, on a copy of the map. Refused, the map is the one before, bit for bit: it is put back over the copy,
-// since of two maps to choose from the compiler would keep a copy of both, accepted or not.
-pub fn bind(kept: &mut [u64; BindingCall::ALL_WORDS], map: Map, call: BindingCall) -> MapResult
-    requires { length kept.old ≡ 18432 }
-    ensures { (length kept.new ≡ 18432) × (result.map.tables ≡ map.tables) × ((x : State ℕ) → (map_with kept.new result.map x, answer_of result.answer) ≡ settled graph_kind (map_with kept.old map x) (bind graph_kind (binding_of call) (map_with kept.old map x))) }
-{
-    let mut after = map;
-    let counts = map.graph.counts;
-    let r = bind::bind_or_scratch(&mut after.graph.words, kept, counts, map.kept, call);
-    let answer = r.answer;
-    let k = r.counts;
-    after.graph.counts.nodes = k.nodes;
-    after.graph.counts.edges = k.edges;
-    after.kept = r.kept;
-    match answer {
-        Answer::Accepted => {}
-        Answer::Refused(_) => {
-            after = map;
-        }
+impl Map {
+    // One binding call more, on a copy of the map. Refused, the map is the one before, bit for bit: it is put back over the
+    // copy, since of two maps to choose from the compiler would keep a copy of both, accepted or not.
+    #[tactic(auto, unfolding(rules::specs::Calls::settled))]
+    pub fn bind(
+        self,
+        kept: &mut [CallWords; CallWords::KEPT as usize],
+        call: &Binding,
+    ) -> (Map, Result<(), Refusal>)
+        ensures tables { result.0.tables ≡ self.tables }
+        ensures bound { (x : State ℕ) → (map_kept kept.new result.0 x, answered result.1) ≡ settled graph_kind (map_kept kept.old self x) (bind graph_kind (binding_in call.now) (map_kept kept.old self x)) }
+    {
+        let mut after = self;
+        let answer = match lent::bind_or_scratch(&mut after.graph, kept, self.kept, call) {
+            Ok(count) => {
+                after.kept = count;
+                Ok(())
+            }
+            Err(refusal) => {
+                after = self;
+                Err(refusal)
+            }
+        };
+        (after, answer)
     }
-    MapResult {
-        map: after,
-        answer: answer,
+
+    // A mapping more.
+    #[tactic(auto, unfolding(rules::specs::Calls::call, rules::specs::Calls::bind))]
+    pub fn add_mapping(
+        self,
+        kept: &mut [CallWords; CallWords::KEPT as usize],
+        mode: u16,
+        path: EdgePath,
+        step: Step,
+    ) -> (Map, Result<(), Refusal>)
+        ensures tables { result.0.tables ≡ self.tables }
+        ensures called { (x : State ℕ) → (map_kept kept.new result.0 x, answered result.1) ≡ call graph_kind (map_kept kept.old self x) (Mapping mode (whole_path path) (whole_step step)) }
+    {
+        self.bind(kept, &Binding::Mapping { mode, path, step })
     }
-}
 
-// A mapping more.
-pub fn add_mapping(
-    kept: &mut [u64; BindingCall::ALL_WORDS],
-    map: Map,
-    mode: u16,
-    path: EdgePath,
-    step: Step,
-) -> MapResult
-    requires { length kept.old ≡ 18432 }
-    ensures { (length kept.new ≡ 18432) × (result.map.tables ≡ map.tables) × ((x : State ℕ) → (map_with kept.new result.map x, answer_of result.answer) ≡ call graph_kind (map_with kept.old map x) (Mapping mode (whole_path path) (whole_step step))) }
-{
-    bind(
-        kept,
-        map,
-        BindingCall {
-            kind: 0,
-            mode: mode,
-            path: path,
-            step: step,
-        },
-    )
-}
-
-// A prefix more; `chosen`: it has the step.
-pub fn add_prefix(
-    kept: &mut [u64; BindingCall::ALL_WORDS],
-    map: Map,
-    mode: u16,
-    path: EdgePath,
-    chosen: bool,
-    step: Step,
-) -> MapResult
-    requires { length kept.old ≡ 18432 }
-    ensures { (length kept.new ≡ 18432) × (result.map.tables ≡ map.tables) × ((x : State ℕ) → (map_with kept.new result.map x, answer_of result.answer) ≡ call graph_kind (map_with kept.old map x) (Prefix mode (whole_path path) (chosen_of chosen (whole_step step)))) }
-{
-    let kind = kind_of(chosen);
-    bind(
-        kept,
-        map,
-        BindingCall {
-            kind: kind,
-            mode: mode,
-            path: path,
-            step: step,
-        },
-    )
-}
-
-// A prefix's kind, with a step or without.
-fn kind_of(chosen: bool) -> u16
-    ensures { (mode : ℕ) (path : List Part) (st : Does) → call_of result mode path st ≡ Prefixes mode path (chosen_of chosen st) }
-{
-    if chosen { 2 } else { 1 }
+    // A prefix more.
+    #[tactic(auto, unfolding(rules::specs::Calls::call, rules::specs::Calls::bind))]
+    pub fn add_prefix(
+        self,
+        kept: &mut [CallWords; CallWords::KEPT as usize],
+        mode: u16,
+        path: EdgePath,
+        step: Option<Step>,
+    ) -> (Map, Result<(), Refusal>)
+        ensures tables { result.0.tables ≡ self.tables }
+        ensures called { (x : State ℕ) → (map_kept kept.new result.0 x, answered result.1) ≡ call graph_kind (map_kept kept.old self x) (Prefix mode (whole_path path) (whole_steps step)) }
+    {
+        self.bind(kept, &Binding::Prefix { mode, path, step })
+    }
 }

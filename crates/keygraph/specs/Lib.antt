@@ -1,3 +1,3 @@
--- What a path's parts and what a call leaves mean in the values of the rules, and what a chain of calls on a cursor comes to.
-pub mod View
+-- What the steps of a cursor come to in the values of the rules.
 pub mod Making
+pub mod Props

@@ -1,120 +1,82 @@
 // One round: a following of the graph, the event hook, and what is to be done at the place come to.
-ghost use Rattle.std.specs.Prelude.{◌≡◌, List, length};
+ghost use Rattle.std.specs.Prelude.{◌≡◌};
 ghost use Rattle.rules.specs.Values as v;
-ghost use Rattle.rules.specs.Graph as g;
 ghost use Rattle.rules.specs.Calls as c;
-ghost use Rattle.keyvalues.specs.View.{node_of, step_of, classes_in, graph_by};
-ghost use Rattle.keyparts.specs.View.{edges_of, graph_in, reached, follow_links, edge_words};
-ghost use Rattle.keyloop.specs.View.{result_by, Turns};
+ghost use Rattle.rules.specs.KeyLoop as rules;
+ghost use Rattle.keyvalues.specs.View.{node_of};
+ghost use Rattle.keyparts.specs.View.{graph_of};
+ghost use Rattle.keytables.specs.View.{tables_of};
+ghost use Rattle.keypairs.specs.View.{live_of, shared_of};
+ghost use Rattle.keyloop.specs.View.{result_by, turn_of};
 
-use keypairs::state::State;
+use crate::key::IndexedMap;
+use keypairs::live::Live;
 use keyparts::follow::FollowResult;
-use keyparts::graph::{Counts, Graph};
-use keyparts::index::Index;
-use keyparts::layout;
+use keyparts::graph::Graph;
 use keyvalues::node::{Node, NodeAction};
 use keyvalues::step::Step;
-use keyvalues::tables::TableWords;
 
-// The step of `RunStep` and `RetryAfter` stands beside the result, since an enum here holds no array.
-#[derive(Clone, Copy)]
+#[derive(Clone, Copy, Debug, PartialEq, Eq)]
 pub enum InputResult {
     Again,
     ClearTrail,
     Consumed,
     NeedMore,
     Unmapped,
-    RunStep,
-    RetryAfter,
-}
-
-#[derive(Clone, Copy)]
-pub struct TurnResult {
-    pub result: InputResult,
-    pub state: State,
-    pub step: Step,
+    RunStep(Step),
+    RetryAfter(Step),
 }
 
 // A successor: a step, flagged or not, an empty node, a root.
-fn arrive(words: &[u64; Graph::WORDS], count: u16, node: Node, to: u16) -> InputResult
-    requires { length words.now ≡ 4128 }
-    ensures { (ns : List g.Node) (ev : v.Event) → result_by result (step_of node.step) ≡ (c.arrive (graph_by ns (edges_of (edge_words words.now) count)) to ev (node_of node).action).result }
+#[tactic(auto, unfolding(rules::specs::Calls::arrive, keyvalues::specs::View::node_of, keyvalues::specs::View::action_of, keyvalues::specs::View::step_of))]
+fn arrive(graph: &Graph, node: Node, to: u16) -> InputResult
+    ensures { (ev : v.Event) → result_by result ≡ (c.arrive (graph_of graph.now) to ev (node_of node).action).result }
 {
-    let action = node.action;
-    let step = node.step;
-    match action {
-        NodeAction::Empty => return InputResult::NeedMore,
-        NodeAction::Root => return InputResult::Consumed,
-        NodeAction::Step => {
-            if step.unmapped {
-                if layout::has_edges(words, count, to) {
-                    return InputResult::NeedMore;
-                }
-                return InputResult::Unmapped;
+    match node.action {
+        NodeAction::Empty => InputResult::NeedMore,
+        NodeAction::Root => InputResult::Consumed,
+        NodeAction::Step(step) => {
+            if !step.unmapped {
+                InputResult::RunStep(step)
+            } else if graph.has_edges(to) {
+                InputResult::NeedMore
+            } else {
+                InputResult::Unmapped
             }
-            return InputResult::RunStep;
         }
     }
 }
 
 // A fallthrough: to an empty node, a root, or a step, whose flag is not looked at.
+#[tactic(auto, unfolding(rules::specs::Calls::land, keyvalues::specs::View::node_of, keyvalues::specs::View::action_of))]
 fn land(node: Node, to: u16) -> InputResult
-    ensures { result_by result (step_of node.step) ≡ (c.land to (node_of node).action).result }
+    ensures { result_by result ≡ (c.land to (node_of node).action).result }
 {
-    let action = node.action;
-    match action {
-        NodeAction::Empty => return InputResult::Again,
-        NodeAction::Root => return InputResult::ClearTrail,
-        NodeAction::Step => return InputResult::RetryAfter,
+    match node.action {
+        NodeAction::Empty => InputResult::Again,
+        NodeAction::Root => InputResult::ClearTrail,
+        NodeAction::Step(step) => InputResult::RetryAfter(step),
     }
 }
 
-pub(crate) fn turn<'a>(
-    words: &'a [u64; Graph::WORDS],
-    counts: Counts,
-    links: &'a [u16; Index::LINKS],
-    tables: &'a [u64; TableWords::WORDS],
-    s: State,
-    key: u16,
-) -> TurnResult
-    requires { (length words.now ≡ 4128) × (length links.now ≡ 2304) × (length tables.now ≡ 131) }
-    ensures { Turns (c.turn_by (graph_in words.now counts) s.place (follow_links (classes_in tables.now) (reached (edge_words words.now) counts.edges) links.now s.place key)) key s result }
+pub(crate) fn turn(map: &IndexedMap, live: &mut Live, key: u16) -> InputResult
+    ensures told { result_by result ≡ (turn_of map.now key live.old).result }
+    ensures left { let x = turn_of map.now key live.old in live_of (tables_of map.now.tables.now) live.new ≡ rules.at x.place (rules.run_hook x.event key (shared_of (tables_of map.now.tables.now) live.old)) }
 {
-    let f = layout::follow_links(words, counts.edges, links, tables, s.place, key);
-    match f {
+    let place = live.state.place;
+    match map
+        .graph
+        .follow(map.index, map.tables.classes(), place, key)
+    {
         FollowResult::Successor(event, to) => {
-            let node = layout::node_at(words, counts.nodes, to);
-            let result = arrive(words, counts.edges, node, to);
-            let step = node.step;
-            let context = s.context;
-            let hooked = context.event(event, key);
-            let mut came = s;
-            came.place = to;
-            came.context = hooked;
-            return TurnResult {
-                result: result,
-                state: came,
-                step: step,
-            };
+            live.state.place = to;
+            live.state.context = live.state.context.event(event, key);
+            arrive(map.graph, map.graph.node(to), to)
         }
         FollowResult::Fallthrough(to) => {
-            let node = layout::node_at(words, counts.nodes, to);
-            let result = land(node, to);
-            let step = node.step;
-            let mut came = s;
-            came.place = to;
-            return TurnResult {
-                result: result,
-                state: came,
-                step: step,
-            };
+            live.state.place = to;
+            land(map.graph.node(to), to)
         }
-        FollowResult::NoSuccessor => {
-            return TurnResult {
-                result: InputResult::Unmapped,
-                state: s,
-                step: Step::default(),
-            };
-        }
+        FollowResult::NoSuccessor => InputResult::Unmapped,
     }
 }

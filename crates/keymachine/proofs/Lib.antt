@@ -1,3 +1,2 @@
--- Laws over the rules' calls, each stated once; a function's folder hands its paths to them.
-pub mod Repeats
+-- The calls' laws, each stated once; a function's folder hands its paths to them.
 pub mod Calls

@@ -1,25 +1,25 @@
 // The modal machine by value: each call takes a machine and hands back the machine after it, with the answer. A refused call
-// hands back the machine before it. What a call does stands below, on the part that it changes.
-ghost use Rattle.std.specs.Prelude.{◌≡◌, List, ℕ};
+// hands back the machine before it.
+ghost use Rattle.std.specs.Prelude.{◌≡◌, List};
 ghost use Rattle.rules.specs.Tables.{no_tables};
 ghost use Rattle.rules.specs.Calls.{graph_kind, call, fresh, mode_call, Open, Press, Pop, Repeats, Reset, HintFits, find};
-ghost use Rattle.keyvalues.specs.View.{answer_of};
-ghost use Rattle.keyparts.specs.View.{found_of, graph_of};
-ghost use Rattle.keytables.specs.View.{whole_tables, tables_in};
-ghost use Rattle.keypairs.specs.View.{over_of};
-ghost use Rattle.keybind.specs.View.{map_with};
-ghost use Rattle.keymachine.specs.View.{machine_of, press_of, pop_of};
+ghost use Rattle.keyvalues.specs.View.{told, maybe_of};
+ghost use Rattle.keyparts.specs.View.{graph_of};
+ghost use Rattle.keytables.specs.View.{whole_tables, tables_of};
+ghost use Rattle.keypairs.specs.View.{over_of, said_of, pop_of};
+ghost use Rattle.keptcalls.specs.declared.words.CallWords.{CallWords};
+ghost use Rattle.keybind.specs.View.{map_kept};
+ghost use Rattle.keymachine.specs.View.{machine_of, press_of};
 
 use crate::live;
-use crate::live::{Live, Pressed};
 use keybind::map::Map;
-use keygraph::answer::Answer;
-use keygraph::find::Found;
-use keygraph::graph::Graph;
-use keygraph::tables::TableWords;
 use keypairs::context::Context;
+use keypairs::live::Live;
 use keypairs::pair::Pair;
+use keyparts::graph::Graph;
 use keytables::tables::Tables;
+use keyvalues::refusal::Refusal;
+use keyvalues::tables::TableWords;
 
 #[repr(C)]
 #[derive(Clone, Copy)]
@@ -28,167 +28,100 @@ pub struct ModalMachine {
     pub live: Live,
 }
 
-// What open, repeat and reset hand back.
-#[derive(Clone, Copy)]
-pub struct CallResult {
-    pub machine: ModalMachine,
-    pub answer: Answer,
-}
-
-#[derive(Clone, Copy)]
-pub struct KeyResult {
-    pub machine: ModalMachine,
-    pub answer: Pressed,
-}
-
-#[derive(Clone, Copy)]
-pub struct PopResult {
-    pub machine: ModalMachine,
-    pub answer: Option<Pair>,
-}
-
 impl ModalMachine {
     // The fresh machine with no tables: mode 0, no pair, no trail, no binding.
     pub fn fresh() -> ModalMachine
-        ensures { (ws : List ℕ) → machine_of ws result ≡ fresh graph_kind no_tables }
+        ensures { (ws : List CallWords) → machine_of ws result ≡ fresh graph_kind no_tables }
     {
-        let graph = Graph::fresh();
-        let tables = TableWords::empty();
         ModalMachine::over(Map {
-            graph: graph,
-            tables: tables,
+            graph: Graph::fresh(),
+            tables: TableWords::EMPTY,
             kept: 0,
         })
     }
 
     // The fresh machine over a map.
     pub fn over(map: Map) -> ModalMachine
-        ensures { (ws : List ℕ) → machine_of ws result ≡ map_with ws map (fresh graph_kind (tables_in map.tables.words)).state }
+        ensures { (ws : List CallWords) → machine_of ws result ≡ map_kept ws map (fresh graph_kind (tables_of map.tables)).state }
     {
-        let live = Live::fresh();
         ModalMachine {
-            map: map,
-            live: live,
+            map,
+            live: Live::fresh(),
         }
     }
 
     // The fresh machine with the tables. Refused, the machine as it was.
-    pub fn open(self, tables: Tables) -> CallResult
-        ensures { (ws : List ℕ) → (machine_of ws result.machine, answer_of result.answer) ≡ call graph_kind (machine_of ws self) (Open (whole_tables tables)) }
+    pub fn open(self, tables: Tables) -> (ModalMachine, Result<(), Refusal>)
+        ensures { (ws : List CallWords) → (machine_of ws result.0, said_of result.1) ≡ call graph_kind (machine_of ws self) (Open (whole_tables tables)) }
     {
-        let p = tables.pack();
-        if p.valid {
-            let graph = Graph::fresh();
-            let words = p.words;
-            return CallResult {
-                machine: ModalMachine::over(Map {
-                    graph: graph,
+        match tables.pack() {
+            Ok(words) => {
+                let map = Map {
+                    graph: Graph::fresh(),
                     tables: words,
                     kept: 0,
-                }),
-                answer: Answer::Accepted,
-            };
-        }
-        CallResult {
-            machine: self,
-            answer: Answer::Refused(1),
+                };
+                (ModalMachine::over(map), Ok(()))
+            }
+            Err(refusal) => (self, Err(refusal)),
         }
     }
 
-    // One key.
-    pub fn input_key(self, key: u16, budget: u16) -> KeyResult
-        ensures { (ws : List ℕ) → (machine_of ws result.machine, press_of result.answer) ≡ call graph_kind (machine_of ws self) (Press (record { key = key; budget = budget })) }
+    // One key, and the rounds that were made.
+    pub fn input_key(self, key: u16, budget: u16) -> (ModalMachine, (u16, Result<(), Refusal>))
+        ensures { (ws : List CallWords) → (machine_of ws result.0, press_of result.1) ≡ call graph_kind (machine_of ws self) (Press (record { key = key; budget = budget })) }
     {
         let mut m = self;
-        let counts = self.map.graph.counts;
-        let tables = self.map.tables;
-        let live = self.live;
-        let r = live::input_key(&m.map.graph.words, counts, tables, live, key, budget);
-        let next = r.live;
-        let answer = r.answer;
-        m.live = next;
-        KeyResult {
-            machine: m,
-            answer: answer,
-        }
+        let r = &mut m;
+        let answer = live::input_key(&r.map.graph, &r.map.tables, &mut r.live, key, budget);
+        (m, answer)
     }
 
     // The first waiting pair, if there is one.
-    pub fn pop(self) -> PopResult
-        ensures { (ws : List ℕ) → (machine_of ws result.machine, pop_of result.answer) ≡ call graph_kind (machine_of ws self) Pop }
+    pub fn pop(self) -> (ModalMachine, Option<Pair>)
+        ensures { (ws : List CallWords) → (machine_of ws result.0, pop_of result.1) ≡ call graph_kind (machine_of ws self) Pop }
     {
-        let live = self.live;
-        let r = live.pop();
-        let next = r.live;
-        let answer = r.answer;
-        let map = self.map;
-        PopResult {
-            machine: ModalMachine {
-                map: map,
-                live: next,
-            },
-            answer: answer,
-        }
+        let mut m = self;
+        let answer = m.live.pop();
+        (m, answer)
     }
 
     // Mode 0 is entered and every sequence broken. The trail is kept.
-    pub fn reset_mode(self) -> CallResult
-        ensures { (ws : List ℕ) → (machine_of ws result.machine, answer_of result.answer) ≡ call graph_kind (machine_of ws self) Reset }
+    pub fn reset_mode(self) -> (ModalMachine, Result<(), Refusal>)
+        ensures { (ws : List CallWords) → (machine_of ws result.0, said_of result.1) ≡ call graph_kind (machine_of ws self) Reset }
     {
-        let live = self.live;
-        let tables = self.map.tables;
-        let r = live.reset_mode(tables);
-        let next = r.live;
-        let answer = r.answer;
-        let map = self.map;
-        CallResult {
-            machine: ModalMachine {
-                map: map,
-                live: next,
-            },
-            answer: answer,
-        }
+        let mut m = self;
+        let answer = live::reset_mode(&m.map.tables, &mut m.live);
+        (m, answer)
     }
 
     // The remembered pairs of the sequence, overridden and stored again, go before the queue.
-    pub fn repeat(self, sequence: u16, over: Option<Context>) -> CallResult
-        ensures { (ws : List ℕ) → (machine_of ws result.machine, answer_of result.answer) ≡ call graph_kind (machine_of ws self) (Repeats sequence (over_of over)) }
+    pub fn repeat(self, sequence: u16, over: Option<Context>) -> (ModalMachine, Result<(), Refusal>)
+        ensures { (ws : List CallWords) → (machine_of ws result.0, said_of result.1) ≡ call graph_kind (machine_of ws self) (Repeats sequence (over_of over)) }
     {
-        let live = self.live;
-        let r = live.repeat(sequence, over);
-        let next = r.live;
-        let answer = r.answer;
-        let map = self.map;
-        CallResult {
-            machine: ModalMachine {
-                map: map,
-                live: next,
-            },
-            answer: answer,
-        }
+        let mut m = self;
+        let answer = m.live.repeat(sequence, over);
+        (m, answer)
     }
 
     // The entered mode.
-    pub fn mode(self) -> u16
-        ensures { (ws : List ℕ) → result ≡ mode_call graph_kind (machine_of ws self) }
+    pub fn mode(&self) -> u16
+        ensures { (ws : List CallWords) → result ≡ mode_call graph_kind (machine_of ws self.now) }
     {
-        let live = self.live;
-        live.mode()
+        self.live.mode()
     }
 
     // The lowest-numbered node of the mode whose step has the action.
-    pub fn find(self, mode: u16, action: u16) -> Found
-        ensures { found_of result ≡ find (graph_of self.map.graph) mode action }
+    pub fn find(&self, mode: u16, action: u16) -> Result<Option<u16>, Refusal>
+        ensures { told maybe_of result ≡ find (graph_of self.now.map.graph) mode action }
     {
-        let g = self.map.graph;
-        g.find(mode, action)
+        self.map.graph.find(mode, action)
     }
 
     // How many nodes are left.
-    pub fn free_nodes(self) -> u16
-        ensures { HintFits (graph_of self.map.graph) result }
+    pub fn free_nodes(&self) -> u16
+        ensures { HintFits (graph_of self.now.map.graph) result }
     {
-        let g = self.map.graph;
-        g.free_nodes()
+        self.map.graph.free_nodes()
     }
 }

@@ -3,71 +3,51 @@
 // calls that keep something.
 ghost use Rattle.std.specs.Prelude.{◌≡◌};
 ghost use Rattle.rules.specs.Calls.{graph_kind, call, Map, Prefix};
-ghost use Rattle.keyvalues.specs.View.{whole_path, whole_step, chosen_of, answer_of};
+ghost use Rattle.keyvalues.specs.View.{whole_path, whole_step, whole_steps};
+ghost use Rattle.keybind.specs.View.{answered};
 ghost use Rattle.keymachine.specs.View.{scanner_of};
 
 use crate::machine::ModalMachine;
-use keptcalls::call::BindingCall;
-use keybind::map;
-use keygraph::answer::Answer;
-use keygraph::path::EdgePath;
-use keygraph::step::Step;
+use keptcalls::words::CallWords;
+use keyvalues::path::EdgePath;
+use keyvalues::refusal::Refusal;
+use keyvalues::step::Step;
 
 #[repr(C)]
 #[derive(Clone, Copy)]
 pub struct Scanner {
     pub machine: ModalMachine,
-    pub kept: [u64; BindingCall::ALL_WORDS],
-}
-
-#[derive(Clone, Copy)]
-pub struct ScannerResult {
-    pub scanner: Scanner,
-    pub answer: Answer,
+    pub kept: [CallWords; CallWords::KEPT as usize],
 }
 
 impl Scanner {
     // A mapping more.
-    pub fn add_mapping(self, mode: u16, path: EdgePath, step: Step) -> ScannerResult
-        ensures { (scanner_of result.scanner, answer_of result.answer) ≡ call graph_kind (scanner_of self) (Map mode (whole_path path) (whole_step step)) }
+    pub fn add_mapping(
+        self,
+        mode: u16,
+        path: EdgePath,
+        step: Step,
+    ) -> (Scanner, Result<(), Refusal>)
+        ensures { (scanner_of result.0, answered result.1) ≡ call graph_kind (scanner_of self) (Map mode (whole_path path) (whole_step step)) }
     {
-        let mut kept = self.kept;
-        let map = self.machine.map;
-        let live = self.machine.live;
-        let r = map::add_mapping(&mut kept, map, mode, path, step);
-        let next = r.map;
-        let answer = r.answer;
-        ScannerResult {
-            scanner: Scanner {
-                machine: ModalMachine {
-                    map: next,
-                    live: live,
-                },
-                kept: kept,
-            },
-            answer: answer,
-        }
+        let mut s = self;
+        let (map, answer) = s.machine.map.add_mapping(&mut s.kept, mode, path, step);
+        s.machine.map = map;
+        (s, answer)
     }
 
-    // A prefix more; `chosen`: it has the step.
-    pub fn add_prefix(self, mode: u16, path: EdgePath, chosen: bool, step: Step) -> ScannerResult
-        ensures { (scanner_of result.scanner, answer_of result.answer) ≡ call graph_kind (scanner_of self) (Prefix mode (whole_path path) (chosen_of chosen (whole_step step))) }
+    // A prefix more, with the step if there is one.
+    pub fn add_prefix(
+        self,
+        mode: u16,
+        path: EdgePath,
+        step: Option<Step>,
+    ) -> (Scanner, Result<(), Refusal>)
+        ensures { (scanner_of result.0, answered result.1) ≡ call graph_kind (scanner_of self) (Prefix mode (whole_path path) (whole_steps step)) }
     {
-        let mut kept = self.kept;
-        let map = self.machine.map;
-        let live = self.machine.live;
-        let r = map::add_prefix(&mut kept, map, mode, path, chosen, step);
-        let next = r.map;
-        let answer = r.answer;
-        ScannerResult {
-            scanner: Scanner {
-                machine: ModalMachine {
-                    map: next,
-                    live: live,
-                },
-                kept: kept,
-            },
-            answer: answer,
-        }
+        let mut s = self;
+        let (map, answer) = s.machine.map.add_prefix(&mut s.kept, mode, path, step);
+        s.machine.map = map;
+        (s, answer)
     }
 }

@@ -1,56 +1,55 @@
 // The numbers that C gets for answers: an enum does not go to C.
 ghost use Rattle.std.specs.Prelude.{◌≡◌};
-ghost use Rattle.keyvalues.specs.View.{answer_of};
-ghost use Rattle.keyparts.specs.View.{found_of};
-ghost use Rattle.keymachine.specs.View.{press_of, pop_of};
+ghost use Rattle.keyvalues.specs.View.{maybe_of, told};
+ghost use Rattle.keypairs.specs.View.{said_of, pop_of};
+ghost use Rattle.keymachine.specs.View.{press_of};
 ghost use Rattle.keymap.specs.Codes.{answer_code, find_code};
 
-use keygraph::answer::Answer;
-use keygraph::find::Found;
-use keymachine::live::Pressed;
-use keymachine::pair::Pair;
+use keypairs::pair::Pair;
+use keyvalues::refusal::Refusal;
 
 // 0, or the refusal's number.
-pub(crate) fn answer_code(a: Answer) -> u64
-    ensures { result ≡ answer_code (answer_of a) }
+pub(crate) fn answer_code(answer: Result<(), Refusal>) -> u64
+    ensures { result ≡ answer_code (said_of answer) }
 {
-    match a {
-        Answer::Accepted => return 0,
-        Answer::Refused(n) => return n as u64,
+    match answer {
+        Ok(()) => 0,
+        Err(refusal) => refusal.number() as u64,
     }
 }
 
 // Rounds × 32, and the refusal's number.
-pub(crate) fn pressed_code(p: Pressed) -> u64
-    ensures { result ≡ answer_code (press_of p) }
+pub(crate) fn pressed_code(pressed: (u16, Result<(), Refusal>)) -> u64
+    ensures { result ≡ answer_code (press_of pressed) }
 {
-    match p {
-        Pressed::Accepted { rounds } => return (rounds as u64) * 32,
-        Pressed::Refused { number, rounds } => return (rounds as u64) * 32 + (number as u64),
+    let (rounds, answer) = pressed;
+    match answer {
+        Ok(()) => (rounds as u64) * 32,
+        Err(refusal) => (rounds as u64) * 32 + (refusal.number() as u64),
     }
 }
 
 // 0, or the pair's three numbers below a bit that says that there is one.
-pub(crate) fn waiting_code(w: Option<Pair>) -> u64
-    ensures { result ≡ answer_code (pop_of w) }
+pub(crate) fn waiting_code(waiting: Option<Pair>) -> u64
+    ensures { result ≡ answer_code (pop_of waiting) }
 {
-    match w {
+    match waiting {
         Some(p) => {
             let x = p.context;
             let pair = (p.action as u64) + (x.count as u64) * 65536 + (x.mark as u64) * 4294967296;
-            return pair + 281474976710656;
+            pair + 281474976710656
         }
-        None => return 0,
+        None => 0,
     }
 }
 
 // The refusal's number; (node + 1) × 32; 0 for none.
-pub(crate) fn found_code(f: Found) -> u64
-    ensures { result ≡ find_code (found_of f) }
+pub(crate) fn found_code(found: Result<Option<u16>, Refusal>) -> u64
+    ensures { result ≡ find_code (told maybe_of found) }
 {
-    match f {
-        Found::Refused(n) => return n as u64,
-        Found::At(node) => return ((node as u64) + 1) * 32,
-        Found::Nothing => return 0,
+    match found {
+        Ok(Some(node)) => ((node as u64) + 1) * 32,
+        Ok(None) => 0,
+        Err(refusal) => answer_code(Err(refusal)),
     }
 }

@@ -1,6 +1,5 @@
-// What C calls. `keymap.h` says what it lends. Each call on the one scanner that C keeps takes it apart by field, calls what
-// stands in coded.rt on the parts, and stores the part that comes back. A key calls what coded.rt calls: that saves copies of
-// the live state, and so 12 KiB of stack.
+// What C calls. `keymap.h` says what it lends. Each call on the one scanner that C keeps is that of lent.rt, with its answer as a
+// number.
 ghost use Rattle.std.specs.Prelude.{◌≡◌, length};
 ghost use Rattle.std.proofs.Math.Option.{none};
 ghost use Rattle.rules.specs.Calls.{graph_kind, call, mode_call, Press, Pop, Repeats, Reset, find};
@@ -9,10 +8,9 @@ ghost use Rattle.rules.specs.Writing.{write_call};
 ghost use Rattle.keymachine.specs.View.{scanner_of};
 ghost use Rattle.keymap.specs.Codes.{coded, open_map, bind_map, repeat_over, find_code, Hints, scanner_bytes};
 
-use crate::words::words_of;
-use crate::{coded, codes};
-use keymachine::live;
+use crate::{codes, lent};
 use keymachine::scanner::Scanner;
+use keypairs::context::Context;
 use mapfile::run;
 use mapwrite::map;
 
@@ -27,89 +25,71 @@ pub fn keymap_size() -> usize
 pub fn keymap_open(m: &mut Scanner, map: &[u8]) -> u64
     ensures { (scanner_of m.new, result) ≡ coded (open_map (scanner_of m.old) map.now) }
 {
-    let r = coded::open(&mut (*m).kept, (*m).machine, map);
-    (*m).machine = r.machine;
-    r.answer
+    codes::answer_code(lent::open_file(m, map))
 }
 
 // One binding more, in the map file's layout. Refused, the machine is as it was.
 pub fn keymap_bind(m: &mut Scanner, binding: &[u8]) -> u64
     ensures { (scanner_of m.new, result) ≡ coded (bind_map (scanner_of m.old) binding.now) }
 {
-    let r = coded::bind(&mut (*m).kept, (*m).machine.map, binding);
-    (*m).machine.map = r.map;
-    r.answer
+    codes::answer_code(lent::bind(m, binding))
 }
 
 pub fn keymap_key(m: &mut Scanner, key: u16, budget: u16) -> u64
     ensures { (scanner_of m.new, result) ≡ coded (call graph_kind (scanner_of m.old) (Press (record { key = key; budget = budget }))) }
 {
-    let r = live::input_key(
-        words_of(&(*m).machine.map.graph),
-        (*m).machine.map.graph.counts,
-        (*m).machine.map.tables,
-        (*m).machine.live,
-        key,
-        budget,
-    );
-    (*m).machine.live = r.live;
-    codes::pressed_code(r.answer)
+    codes::pressed_code(lent::input_key(m, key, budget))
 }
 
 pub fn keymap_pop(m: &mut Scanner) -> u64
     ensures { (scanner_of m.new, result) ≡ coded (call graph_kind (scanner_of m.old) Pop) }
 {
-    let r = coded::pop((*m).machine.live);
-    (*m).machine.live = r.live;
-    r.answer
+    codes::waiting_code(lent::pop(m))
 }
 
 pub fn keymap_repeat(m: &mut Scanner, sequence: u16) -> u64
     ensures { (scanner_of m.new, result) ≡ coded (call graph_kind (scanner_of m.old) (Repeats sequence none)) }
 {
-    let r = coded::repeat((*m).machine.live, sequence);
-    (*m).machine.live = r.live;
-    r.answer
+    codes::answer_code(lent::repeat(m, sequence, None))
 }
 
+// A count that is no number of the rules is refused.
 pub fn keymap_repeat_over(m: &mut Scanner, sequence: u16, count: u32, mark: u16) -> u64
     ensures { (scanner_of m.new, result) ≡ coded (repeat_over (scanner_of m.old) sequence count mark) }
 {
-    let r = coded::repeat_over((*m).machine.live, sequence, count, mark);
-    (*m).machine.live = r.live;
-    r.answer
+    if 65535 < count {
+        return 1;
+    }
+    let over = Context {
+        count: count as u16,
+        mark: mark,
+    };
+    codes::answer_code(lent::repeat(m, sequence, Some(over)))
 }
 
 pub fn keymap_reset(m: &mut Scanner) -> u64
     ensures { (scanner_of m.new, result) ≡ coded (call graph_kind (scanner_of m.old) Reset) }
 {
-    let r = coded::reset_mode((*m).machine.live, (*m).machine.map.tables);
-    (*m).machine.live = r.live;
-    r.answer
+    codes::answer_code(lent::reset_mode(m))
 }
 
 // The four that only look.
 pub fn keymap_mode(m: &Scanner) -> u64
     ensures { result ≡ mode_call graph_kind (scanner_of m.now) }
 {
-    coded::mode((*m).machine.live)
+    lent::mode(m) as u64
 }
 
 pub fn keymap_find(m: &Scanner, mode: u16, action: u16) -> u64
     ensures { result ≡ find_code (find (scanner_of m.now).bindings mode action) }
 {
-    coded::find(
-        words_of(&(*m).machine.map.graph),
-        (*m).machine.map.graph.counts,
-        mode,
-        action,
-    )
+    codes::found_code(lent::find(m, mode, action))
 }
 
 pub fn keymap_free(m: &Scanner) -> u64
     ensures { Hints (scanner_of m.now).bindings result }
 {
-    coded::free_nodes((*m).machine.map.graph)
+    (lent::free_nodes(m) as u64) * 32
 }
 
 // The map file of the machine: its tables and the binding calls that it kept. Length × 32 + refusal; accepted, the bytes stand
@@ -117,12 +97,7 @@ pub fn keymap_free(m: &Scanner) -> u64
 pub fn keymap_write(m: &Scanner, output: &mut [u8]) -> u64
     ensures { (result, output.new) ≡ write_call graph_kind (scanner_of m.now) output.old }
 {
-    map::write_map(
-        &(*m).kept,
-        (*m).machine.map.kept,
-        (*m).machine.map.tables,
-        output,
-    )
+    map::write_map(&m.kept, m.machine.map.kept, &m.machine.map.tables, output)
 }
 
 // A map and keys at once, without a scanner.

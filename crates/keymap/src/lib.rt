@@ -2,8 +2,6 @@
 // run beside them.
 #![tactic(auto)]
 
-pub mod coded;
 mod codes;
 pub mod firmware;
 pub mod lent;
-mod words;

@@ -3,3 +3,4 @@ pub mod Lists
 pub mod Sequences
 pub mod Pushes
 pub mod Modes
+pub mod Calls

@@ -1,43 +1,30 @@
--- Laws over plain lists that are changed in part, and of outcomes.
-use Prim.Native.Nat.{ℕ, zero, suc, ◌+◌, ◌≤◌, ◌<◌}
-use mathlib.Core.Path.{◌≡◌, refl, ◌∙◌}
-use mathlib.Core.List.{List, [], ◌∷◌, ◌++◌, map, map-append, append_assoc}
-use native.Mathlib.Omega.{arith}
-use native.Mathlib.Numerals.{add-one}
-use lib.ListN.{length, take, drop, set, get_or, length-take, length-drop, length-map, length-append}
-use lib.Seq.{drop-cons, take-suc, get_or_at, set_at}
-use Rattle.keyvalues.specs.View.{outcome}
-use Rattle.rules.specs.Basics.{accept, refuse}
+-- A list whose elements are changed one after another, seen through f: what g does to all that f gives.
+use Rattle.std.proofs.Common.{◌≡◌, sym, ap, ◌∙◌, ℕ, suc, ◌+◌, ◌≤◌, ◌<◌, List, [], ◌∷◌, ◌++◌, length, map, take, drop, get_or, arith, add-one, append_assoc}
+use mathlib.Core.List.{map-append, append-nil}
+use lib.ListN.{set, length-take, length-map, drop_of_length-le}
+use lib.Seq.{drop-cons, take-suc, get_or_at, set_at, take_all}
+use Rattle.std.proofs.lemmas.List.{get_or-map, map-set}
 
--- ---- a list of which the first i are changed
+module _ {A B : Type 0} (f : A → B) (g : B → B) where
+  -- the first i are changed
+  abbrev pub Changed : List A → List A → ℕ → Type 0
+  Changed old new i = map f new ≡ map g (take i (map f old)) ++ drop i (map f old)
 
-pub map_more : {A : Type 0} (f : A → A) (l : List A) (i : ℕ) (d : A) → i < length l
-    → set (map f (take i l) ++ drop i l) i (f (get_or l i d)) ≡ map f (take (i + 1) l) ++ drop (i + 1) l
-map_more f l i d h =
-    let p : length (map f (take i l)) ≡ i = length-map (take i l) f ∙ omega (arith, length-take i l) in
-    rw (drop-cons l i d h, add-one i, set_at (map f (take i l)) (get_or l i d) (drop (suc i) l) (f (get_or l i d)) i p, take-suc l i d h, map-append f (take i l) (get_or l i d ∷ []), append_assoc)
+  module _ (old new : List A) (i : ℕ) where
+    pub changed_on : (d a : A) → i < length new → length new ≡ length old → f a ≡ g (f (get_or new i d)) → Changed old new i → Changed old (set new i a) (i + 1)
+    changed_on d a h l e inv =
+        let bs : List B = map f old in
+        let n : i < length bs = omega (arith, length-map old f) in
+        let p : length (map g (take i bs)) ≡ i = length-map (take i bs) g ∙ omega (arith, length-take i bs) in
+        let at : f (get_or new i d) ≡ get_or bs i (f d)
+        = sym (get_or-map f new i d (f d) h) ∙ ap (λ (z : List B). get_or z i (f d)) inv
+        ∙ rw (drop-cons bs i (f d) n, get_or_at (map g (take i bs)) (get_or bs i (f d)) (drop (suc i) bs) (f d) i p) in
+        map-set f new i a
+        ∙ ap (λ (z : List B). set z i (f a)) inv
+        ∙ ap (λ (b : B). set (map g (take i bs) ++ drop i bs) i b) (e ∙ ap g at)
+        ∙ rw (drop-cons bs i (f d) n, add-one i, set_at (map g (take i bs)) (get_or bs i (f d)) (drop (suc i) bs) (g (get_or bs i (f d))) i p, take-suc bs i (f d) n, map-append g (take i bs) (get_or bs i (f d) ∷ []), append_assoc)
 
-pub map_at : {A : Type 0} (f : A → A) (l : List A) (i : ℕ) (d : A) → i < length l → get_or (map f (take i l) ++ drop i l) i d ≡ get_or l i d
-map_at f l i d h =
-    let p : length (map f (take i l)) ≡ i = length-map (take i l) f ∙ omega (arith, length-take i l) in
-    rw (drop-cons l i d h, get_or_at (map f (take i l)) (get_or l i d) (drop (suc i) l) d i p)
-
-pub map_long : {A : Type 0} (f : A → A) (l : List A) (i : ℕ) → length (map f (take i l) ++ drop i l) ≡ length l
-map_long f l i = length-append (map f (take i l)) (drop i l) ∙ omega (arith, length-map (take i l) f, length-take i l, length-drop i l)
-
--- ---- outcomes
-
-pub outcome_ok : {A : Type 0} (n : ℕ) (a : A) → n ≡ 0 → outcome n a ≡ accept a
-unfolding outcome
-outcome_ok zero a e = refl
-outcome_ok (suc n) a e = absurd (omega arith)
-
-pub outcome_no : {A : Type 0} (n : ℕ) (a : A) → (n ≡ 0 → ⊥) → outcome n a ≡ refuse n
-unfolding outcome
-outcome_no zero a e = absurd (e refl)
-outcome_no (suc n) a e = refl
-
--- the length of a list of which a part was lent and came back
-pub part_long : (ws new : List ℕ) (at k : ℕ) → at + k ≤ length ws → length new ≡ k → length (take at ws ++ (new ++ drop k (drop at ws))) ≡ length ws
-part_long ws new at k h e =
-    length-append (take at ws) (new ++ drop k (drop at ws)) ∙ omega (arith, length-append new (drop k (drop at ws)), length-take at ws, length-drop k (drop at ws), length-drop at ws)
+    pub changed_all : length old ≤ i → Changed old new i → map f new ≡ map g (map f old)
+    changed_all h inv =
+        let n : length (map f old) ≤ i = omega (arith, length-map old f) in
+        inv ∙ rw (take_all i (map f old) n, drop_of_length-le (map f old) n, append-nil)

@@ -1,21 +1,22 @@
 -- What the words of pairs and sequences and the declared types mean, in the values of the rules. Every word decodes to something.
 use Rattle.std.specs.Prelude
-use Rattle.std.specs.Prelude.{Some, None, ℕ, ◌/◌, ◌%◌, true, List, map, eqb, length, take, drop, set, get_or, if◌then◌else◌}
+use Rattle.std.specs.Prelude.{Some, None, Ok, Err, ℕ, ◌/◌, ◌%◌, true, List, [], ◌∷◌, ◌++◌, map, eqb, ltb, length, take, if◌then◌else◌}
 use Rattle.std.proofs.Math.Option
 use Rattle.std.proofs.Math.Option.{Option, none, some}
-use Rattle.rules.specs.Basics.{Result, ◌>>=◌}
+use Rattle.rules.specs.Basics.{Result, accept, ◌>>=◌, unless}
 use Rattle.rules.specs.Values as v
 use Rattle.rules.specs.Tables as t
 use Rattle.rules.specs.KeyLoop as key
 use Rattle.rules.specs.Calls as c
 use Rattle.rules.specs.Graph as g
-use Rattle.keytables.specs.View.{blocks}
+use Rattle.keyvalues.specs.declared.refusal.Refusal.{Refusal}
+use Rattle.keyvalues.specs.View.{number_of}
 use Rattle.keypairs.specs.declared.context.Context.{Context}
 use Rattle.keypairs.specs.declared.pair.Pair.{Pair}
 use Rattle.keypairs.specs.declared.tracker.Status.{Status}
 use Rattle.keypairs.specs.declared.tracker.Status.TheVariants.{Atom, Break, Ignore, Restart, Track}
 use Rattle.keypairs.specs.declared.tracker.SequenceTracker.{SequenceTracker}
-use Rattle.keypairs.specs.declared.state.State.{State}
+use Rattle.keypairs.specs.declared.live.Live.{Live}
 
 -- ---- context and pair
 
@@ -48,38 +49,56 @@ status_by Ignore = t.Ignore
 status_by Restart = t.Restart
 status_by Track = t.Track
 
--- a block of 65 words: twice the count, and one more if it is broken; then the pairs
-unfoldable pub tracker_of : List ℕ → key.Tracker
-tracker_of b = key.tracker (pairs_of (get_or b 0 0 / 2) (drop 1 b)) (eqb (get_or b 0 0 % 2) 1)
-
-abbrev pub tracker_by : SequenceTracker → key.Tracker
-tracker_by s = tracker_of s.words
+-- the head is twice the number of pairs, and one more if the sequence is broken
+unfoldable pub tracker_by : SequenceTracker → key.Tracker
+tracker_by s = key.tracker (pairs_of (s.head / 2) s.pairs) (eqb (s.head % 2) 1)
 
 abbrev pub broke : key.Tracker → key.Tracker
 broke s = key.tracker s.pairs true
 
-abbrev pub trackers_of : List ℕ → List key.Tracker
-trackers_of ws = map tracker_of (blocks 65 8 ws)
+abbrev pub trackers_of : List SequenceTracker → List key.Tracker
+trackers_of ss = map tracker_by ss
 
 -- a sequence after fetching it, and how many pairs it has
 abbrev pub fetched_by : Option v.Context → key.Tracker → key.Tracker × ℕ
 fetched_by o t = (key.fetch o t, length t.pairs)
 
--- the sequences after fetching one of them, and how many pairs that one has; for a number past the end, nothing and 0
-abbrev pub fetched_at : ℕ → Option v.Context → List key.Tracker → List key.Tracker × ℕ
-fetched_at q o ts = (set ts q (key.fetch o (get_or ts q key.no_tracker)), length (get_or ts q key.no_tracker).pairs)
+-- ---- the live state, over tables
 
--- ---- state
+abbrev pub shared_of : t.Tables → Live → key.Shared
+shared_of t l = record {
+  tables = t;
+  mode = l.state.mode;
+  context = context_of l.state.context;
+  queue = pairs_of l.state.queued l.queue;
+  trail = take l.state.trailed l.trail;
+  sequences = trackers_of l.sequences;
+}
 
-abbrev pub shared : t.Tables → ℕ → v.Context → List v.Pair → List ℕ → List key.Tracker → key.Shared
-shared t m x q tr ts = record { tables = t; mode = m; context = x; queue = q; trail = tr; sequences = ts }
+-- a count above an array's length is the whole array, so that every value of the struct is some live state
+abbrev pub live_of : t.Tables → Live → key.State ℕ
+live_of t l = key.at l.state.place (shared_of t l)
 
--- a state over tables, a queue, sequences and a trail
-abbrev pub shared_of : State → t.Tables → List ℕ → List ℕ → List ℕ → key.Shared
-shared_of s t q sq tr = shared t s.mode (context_of s.context) (pairs_of s.queued q) tr (trackers_of sq)
+-- the live state over a graph, kept calls and tables
+abbrev pub machine_by : g.Graph → List v.Binding → t.Tables → Live → c.Machine c.graph_kind
+machine_by gr ks t l = record { bindings = gr; kept = ks; state = live_of t l }
 
-abbrev pub state_of : State → t.Tables → List ℕ → List ℕ → List ℕ → key.State ℕ
-state_of s t q sq tr = key.at s.place (shared_of s t q sq tr)
+-- ---- answers
+
+-- what a call answers that is accepted or refused
+abbrev pub said_of : Prelude.Result (Unit {0}) Refusal → c.Answer
+said_of (Ok _) = c.Accepted
+said_of (Err r) = c.Refused (number_of r)
+
+abbrev pub pop_of : Prelude.Option Pair → c.Answer
+pop_of (Some p) = c.Popped (pair_by p)
+pop_of None = c.Nothing
+
+-- a key joins the trail: 7 a key is to join a trail of 64
+abbrev pub joined : ℕ → key.State ℕ → Result (key.State ℕ)
+joined k m =
+    unless (ltb (length m.shared.trail) 64) 7
+    (accept (key.at m.place (key.with_trail (m.shared.trail ++ (k ∷ [])) m.shared)))
 
 -- actions are given, or action 0 if there are none, and then the next mode is entered, or the entered one anew
 abbrev pub give_goto : g.Graph → List ℕ → Option ℕ → key.Shared → Result (key.State ℕ)

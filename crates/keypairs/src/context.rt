@@ -7,17 +7,10 @@ ghost use Rattle.keypairs.specs.View.{context_of, chosen_of};
 use keyvalues::event::EdgeEvent;
 
 #[repr(C)]
-#[derive(Clone, Copy)]
+#[derive(Clone, Copy, Debug, PartialEq, Eq, Default)]
 pub struct Context {
     pub count: u16,
     pub mark: u16,
-}
-
-// What `take` leaves, and what it took.
-#[derive(Clone, Copy)]
-pub struct TakeResult {
-    pub context: Context,
-    pub answer: Context,
 }
 
 // The count with a digit more, up to the largest value.
@@ -25,8 +18,7 @@ fn counted(count: u16, key: u16) -> u16
     requires { 48 ≤ key }
     ensures { result ≡ min 65535 (count * 10 + (key - 48)) }
 {
-    let n = (count as u32) * 10 + (key as u32 - 48);
-    if n < 65535 { n as u16 } else { 65535 }
+    count.saturating_mul(10).saturating_add(key - 48)
 }
 
 fn chosen(over: u16, old: u16) -> u16
@@ -37,45 +29,36 @@ fn chosen(over: u16, old: u16) -> u16
 
 impl Context {
     // The event hook: a digit counts for class 0, and Any sets the mark.
+    #[tactic(auto, unfolding(rules::specs::Values::hook))]
     pub fn event(self, event: EdgeEvent, key: u16) -> Context
         ensures { context_of result ≡ v.hook (event_of event) key (context_of self) }
     {
         match event {
-            EdgeEvent::Key(_) => return self,
-            EdgeEvent::Class(class) => {
-                if class == 0 {
-                    if 48 <= key {
-                        if key <= 57 {
-                            return Context {
-                                count: counted(self.count, key),
-                                mark: self.mark,
-                            };
-                        }
-                    }
-                }
-                return self;
-            }
-            EdgeEvent::Any => {
-                return Context {
-                    count: self.count,
-                    mark: key,
-                };
-            }
-            EdgeEvent::Fallthrough => return self,
+            EdgeEvent::Class(0) if 48 <= key && key <= 57 => Context {
+                count: counted(self.count, key),
+                mark: self.mark,
+            },
+            EdgeEvent::Any => Context {
+                count: self.count,
+                mark: key,
+            },
+            _ => self,
         }
     }
 
-    // The context, and the zeros that it leaves.
-    pub fn take(self) -> TakeResult
-        ensures { (context_of result.answer, context_of result.context) ≡ v.take (context_of self) }
+    // The context, which leaves zeros.
+    #[tactic(auto, unfolding(rules::specs::Values::no_context))]
+    pub fn take(&mut self) -> Context
+        ensures taken { context_of result ≡ (v.take (context_of self.old)).0 }
+        ensures left { context_of self.new ≡ (v.take (context_of self.old)).1 }
     {
-        TakeResult {
-            context: Context { count: 0, mark: 0 },
-            answer: self,
-        }
+        let taken = *self;
+        *self = Context { count: 0, mark: 0 };
+        taken
     }
 
     // Each field of `over` that is not 0, and else the old one.
+    #[tactic(auto, unfolding(rules::specs::Values::merge))]
     pub fn merge(self, over: Context) -> Context
         ensures { context_of result ≡ v.merge (context_of self) (context_of over) }
     {

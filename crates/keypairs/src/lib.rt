@@ -2,15 +2,14 @@
 // with what it gives. A function that has the name of a definition of crates/rules/specs is proved equal to it, by the views of
 // specs/View.antt; what the others do is said in the same terms.
 //
-// The queue and the sequences are arrays of words that are lent to the functions below and changed in place. Of a key graph
-// its parts are read and nothing is added, so the crate stands on those alone.
+// What a machine keeps is lent to the functions below and changed in place. Of a key graph its parts are read and nothing is
+// added, so the crate stands on those alone.
 #![tactic(auto)]
 
 pub mod context;
-pub mod mode;
+pub mod live;
+mod mode;
 pub mod pair;
-mod queue;
 mod rule;
 pub mod state;
-pub mod step;
 pub mod tracker;

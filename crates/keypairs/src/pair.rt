@@ -7,7 +7,7 @@ ghost use Rattle.keypairs.specs.View.{pair_by, pair_of, over_of};
 use crate::context::Context;
 use keyvalues::number;
 
-#[derive(Clone, Copy)]
+#[derive(Clone, Copy, Debug, PartialEq, Eq)]
 pub struct Pair {
     pub action: u16,
     pub context: Context,
@@ -18,6 +18,7 @@ impl Pair {
     pub const QUEUE: u16 = 256;
 
     // The default pair: action 0 with nothing gathered.
+    #[tactic(auto, unfolding(rules::specs::Values::default_pair))]
     pub fn default() -> Pair
         ensures { pair_by result ≡ v.default_pair }
     {
@@ -27,6 +28,7 @@ impl Pair {
         }
     }
 
+    #[tactic(auto, using(crate::proofs::Sequences::packed))]
     pub(crate) fn pack(self) -> u64
         ensures { pair_of result ≡ pair_by self }
     {
@@ -35,6 +37,7 @@ impl Pair {
     }
 
     // The pair of a word of the queue or of a sequence.
+    #[tactic(auto, unfolding(crate::specs::View::pair_of))]
     pub fn unpack(w: u64) -> Pair
         ensures { pair_by result ≡ pair_of w }
     {
@@ -52,14 +55,11 @@ impl Pair {
         ensures { pair_by result ≡ override (over_of over) (pair_by self) }
     {
         match over {
-            None => return self,
-            Some(c) => {
-                let x = self.context;
-                return Pair {
-                    action: self.action,
-                    context: x.merge(c),
-                };
-            }
+            None => self,
+            Some(over) => Pair {
+                action: self.action,
+                context: self.context.merge(over),
+            },
         }
     }
 }

@@ -1,49 +1,32 @@
 -- Searches in words and among nodes, and what they say of edges and of find.
-use Rattle.std.specs.Prelude.{if◌then◌else◌}
-use Prim.Native.Nat.{ℕ, suc, ◌+◌, ◌*◌, ◌%◌, ◌<◌, ◌≤◌, min, zero-le}
+use Rattle.std.specs.Prelude
+use Rattle.std.specs.Prelude.{if◌then◌else◌, cond, Some, None}
+use Rattle.std.specs.Option.{unwrap_or}
+use Rattle.std.specs.Simd.{first_chunks}
+use Rattle.std.specs.List.{position_or_len, position_from, list_any}
+use Rattle.std.proofs.lemmas.List.{get_or-map}
+use Rattle.std.proofs.lemmas.List.Recursion.{is_position_or_len}
+use Rattle.std.proofs.lemmas.Iterator.Adapters.{position_from-zero}
+use Prim.Native.Nat.{ℕ, zero, suc, ◌+◌, ◌-◌, ◌*◌, ◌%◌, ◌<◌, ◌≤◌, zero-le}
 use mathlib.Core.Path.{◌≡◌, refl, sym, ap, ◌∙◌}
-use mathlib.Core.Bool.{Bool, true, false}
+use mathlib.Core.Bool.{Bool, true, false, ◌||◌}
 use mathlib.Core.List.{List, [], ◌∷◌, ◌++◌, map, map-append}
 use mathlib.Core.Option.{Option, none, some}
 use native.Mathlib.Omega.{arith}
 use native.Mathlib.Numerals.{add-one}
-use lib.ListN.{length, take, drop, set, get_or, length-take, length-map, drop_of_length-le}
-use lib.Seq.{drop-cons, get_or-take, take-set-lt, take-suc-set}
-use borrow.Author.Tests.{lt-ltb, le-ltb}
-use Rattle.rules.specs.Basics.{accept, refuse}
+use lib.Dec.{ltb}
+use lib.ListN.{length, take, drop, length-drop, set, get_or, length-map, get_or-eq_default}
+use Rattle.keyvalues.specs.declared.node.NodeWords.{NodeWords}
+use lib.Seq.{take_all}
+use borrow.Author.Tests.{lt-ltb, le-ltb, ltb-false}
+use Rattle.rules.specs.Basics.{accept, refuse, some_of}
 use Rattle.rules.specs.Values.{Event, Class, Fallthrough}
 use Rattle.rules.specs.Tables.{ClassEntry, memberships, holds_key}
 use Rattle.rules.specs.Graph.{is_edge, Edge, end_in, replace_in, put_edge, add_edge, get_edge, Node, no_node, follow_first, or_else_by, lastly, class_events, Successor, FallsTo, NoSuccessor}
-use Rattle.rules.specs.Calls.{holds_action, first_node, find}
-use Rattle.keyvalues.specs.View.{event_at, class_at, graph_by}
-use Rattle.keyparts.specs.View.{edge_of, key_is, first_place, edges_of, member_end, follow_members}
+use Rattle.rules.specs.Calls.{first_node}
+use Rattle.keyvalues.specs.View.{maybe_of, event_at, class_at, graph_by, node_in}
+use Rattle.keyparts.specs.View.{edge_of, key_is, first_place, follow_members}
 use Rattle.keyparts.proofs.Edges.{edge_key, edge_word}
-
--- ---- a search that goes up from 0: what is still to be searched lies at drop i of the first m
-module _ {A : Type 0} (p : A → Bool) (m : ℕ) (ys : List A) (d : A) (i n : ℕ) (e : n ≡ min m (length ys)) where
-  pub first_here : i < n → p (get_or ys i d) ≡ true → first_place p (take m ys) ≡ i + first_place p (drop i (take m ys)) → i ≡ first_place p (take m ys)
-  unfolding first_place
-  first_here h t q =
-      let l : i < length (take m ys) = omega (arith, length-take m ys) in
-      let k : i < m = omega arith in
-      let s : first_place p (drop i (take m ys)) ≡ 0 = rw (drop-cons (take m ys) i d l, get_or-take m ys i d k, t) in
-      omega arith
-
-  pub first_next : i < n → p (get_or ys i d) ≡ false → first_place p (take m ys) ≡ i + first_place p (drop i (take m ys)) → first_place p (take m ys) ≡ i + 1 + first_place p (drop (i + 1) (take m ys))
-  unfolding first_place
-  first_next h t q =
-      let l : i < length (take m ys) = omega (arith, length-take m ys) in
-      let k : i < m = omega arith in
-      let s : first_place p (drop i (take m ys)) ≡ suc (first_place p (drop (suc i) (take m ys))) = rw (drop-cons (take m ys) i d l, get_or-take m ys i d k, t) in
-      let u : first_place p (drop (i + 1) (take m ys)) ≡ first_place p (drop (suc i) (take m ys)) = rw add-one in
-      omega arith
-
-  pub first_end : n ≤ i → i ≤ n → first_place p (take m ys) ≡ i + first_place p (drop i (take m ys)) → i ≡ first_place p (take m ys)
-  unfolding first_place
-  first_end h h2 q =
-      let l : length (take m ys) ≤ i = omega (arith, length-take m ys) in
-      let s : first_place p (drop i (take m ys)) ≡ 0 = rw (drop_of_length-le (take m ys) l) in
-      omega arith
 
 pub first_most : {A : Type 0} (p : A → Bool) (xs : List A) → first_place p xs ≤ length xs
 unfolding first_place
@@ -54,6 +37,93 @@ first_most p (x ∷ xs) = pick (p x) (first_most p xs)
     pick true h = zero-le
     pick false h = omega arith
 
+-- ---- what std's searches say
+
+-- the answer of `position`
+abbrev pub place_told : {A : Type 0} → (A → Bool) → List A → Prelude.Option ℕ
+place_told p xs = cond (ltb (position_or_len p xs) (length xs)) (Some (position_or_len p xs)) None
+
+pub first_is : {A : Type 0} (p : A → Bool) (xs : List A) → first_place p xs ≡ position_or_len p xs
+unfolding first_place
+first_is p xs = is_position_or_len (first_place p) p refl (λ y ys. go (p y) (first_place p ys)) xs
+  where
+    go : (b : Bool) (n : ℕ) → (if b then 0 else suc n) ≡ cond b 0 (1 + n)
+    go true n = refl
+    go false n = omega arith
+
+pub place_or : {A : Type 0} (p : A → Bool) (xs : List A) → unwrap_or (place_told p xs) (length xs) ≡ first_place p xs
+place_or p xs = go (ltb (position_or_len p xs) (length xs)) refl ∙ sym (first_is p xs)
+  where
+    go : (b : Bool) → ltb (position_or_len p xs) (length xs) ≡ b → unwrap_or (cond b (Some (position_or_len p xs)) None) (length xs) ≡ position_or_len p xs
+    go true f = refl
+    go false f = let l = ltb-false (position_or_len p xs) (length xs) f in omega (arith, first_most p xs, first_is p xs)
+
+-- a search may begin at any place up to the first
+first_from : {A : Type 0} (p : A → Bool) (n : ℕ) (xs : List A) → n ≤ first_place p xs → n + first_place p (drop n xs) ≡ first_place p xs
+unfolding first_place
+first_from p zero xs h = omega arith
+first_from p (suc n) [] h = absurd (omega arith)
+first_from p (suc n) (x ∷ xs) h = go (p x) (first_from p n xs) h
+  where
+    go : (b : Bool) → (n ≤ first_place p xs → n + first_place p (drop n xs) ≡ first_place p xs) → suc n ≤ (if b then 0 else suc (first_place p xs)) → suc n + first_place p (drop n xs) ≡ (if b then 0 else suc (first_place p xs))
+    go true ih h = absurd (omega arith)
+    go false ih h = let e = ih (omega arith) in omega arith
+
+-- where none of the first k passes, the first that does stands behind them
+first_behind : {A : Type 0} (p : A → Bool) (k : ℕ) (xs : List A) → k ≤ length xs → list_any p (take k xs) ≡ false → k + first_place p (drop k xs) ≤ first_place p xs
+unfolding first_place
+first_behind p zero xs h e = omega arith
+first_behind p (suc k) [] h e = absurd (omega arith)
+first_behind p (suc k) (x ∷ xs) h e = go (p x) e (first_behind p k xs (omega arith))
+  where
+    go : (b : Bool) → (b || list_any p (take k xs)) ≡ false → (list_any p (take k xs) ≡ false → k + first_place p (drop k xs) ≤ first_place p xs) → suc k + first_place p (drop k xs) ≤ (if b then 0 else suc (first_place p xs))
+    go true e ih = absurd cc
+    go false e ih = let f = ih e in omega arith
+
+-- the words of the first blocks of which none has one that passes
+pub blocks_before : {A : Type 0} (p : A → Bool) (k m : ℕ) (xs : List A) → m * k ≤ length xs → first_place (list_any p) (first_chunks k m xs) * k ≤ first_place p xs
+unfolding first_place
+blocks_before p k zero xs h = omega arith
+blocks_before p k (suc m) xs h = go (list_any p (take k xs)) refl (blocks_before p k m (drop k xs))
+  where
+    go : (b : Bool) → list_any p (take k xs) ≡ b → (m * k ≤ length (drop k xs) → first_place (list_any p) (first_chunks k m (drop k xs)) * k ≤ first_place p (drop k xs))
+        → (if b then 0 else suc (first_place (list_any p) (first_chunks k m (drop k xs)))) * k ≤ first_place p xs
+    go true e ih = omega arith
+    go false e ih =
+        let s : suc m * k ≡ k + m * k = omega arith in
+        let l : k ≤ length xs = omega arith in
+        let r : m * k ≤ length (drop k xs) = omega (arith, length-drop k xs) in
+        let i = ih r in
+        let f = first_behind p k xs l e in
+        let t : suc (first_place (list_any p) (first_chunks k m (drop k xs))) * k ≡ k + first_place (list_any p) (first_chunks k m (drop k xs)) * k = omega arith in
+        omega arith
+
+-- the same of the rest as it is cut
+pub first_in_rest : {A : Type 0} (p : A → Bool) (n : ℕ) (xs : List A) → n ≤ first_place p xs → n + first_place p (take (length xs - n) (drop n xs)) ≡ first_place p xs
+first_in_rest p n xs h =
+    let l : length (drop n xs) ≤ length xs - n = omega (arith, length-drop n xs) in
+    rw (take_all (length xs - n) (drop n xs) l) (first_from p n xs h)
+
+-- the first of the nodes that stand for words
+module _ {A : Type 0} (f : A → Node) (p : Node → Bool) where
+  from_place : (n : ℕ) (xs : List A) → maybe_of (position_from (λ x. p (f x)) n xs) ≡ first_node p n (map f xs)
+  unfolding first_node
+  from_place n [] = refl
+  from_place n (x ∷ xs) = rw add-one (go (p (f x)) (from_place (suc n) xs))
+    where
+      go : (b : Bool) → maybe_of (position_from (λ y. p (f y)) (suc n) xs) ≡ first_node p (suc n) (map f xs)
+          → maybe_of (cond b (Some n) (position_from (λ y. p (f y)) (suc n) xs)) ≡ (if b then some n else first_node p (suc n) (map f xs))
+      go true h = refl
+      go false h = h
+
+  pub node_told : (xs : List A) → maybe_of (place_told (λ x. p (f x)) xs) ≡ first_node p 0 (map f xs)
+  node_told xs = ap maybe_of (position_from-zero (λ x. p (f x)) xs) ∙ from_place 0 xs
+
+pub any_told : {A B : Type 0} (f : A → B) (p : B → Bool) (xs : List A) → list_any (λ x. p (f x)) xs ≡ some_of p (map f xs)
+unfolding some_of
+any_told f p [] = refl
+any_told f p (x ∷ xs) = ap (λ (b : Bool). p (f x) || b) (any_told f p xs)
+
 pub first_has : {A : Type 0} (p : A → Bool) (d : A) (xs : List A) → first_place p xs < length xs → p (get_or xs (first_place p xs) d) ≡ true
 unfolding first_place
 first_has p d [] h = absurd (omega arith)
@@ -63,24 +133,6 @@ first_has p d (x ∷ xs) h = go (p x) refl (first_has p d xs) h
         → p (get_or (x ∷ xs) (if b then 0 else suc (first_place p xs)) d) ≡ true
     go true e ih h = e
     go false e ih h = ih (omega arith)
-
--- ---- the search for a node: what is left of it from node i on gives what all of it gives
-abbrev pub LeftFrom : List Node → ℕ → ℕ → ℕ → Type 0
-LeftFrom ns mode a i = first_node (holds_action mode a) 0 ns ≡ first_node (holds_action mode a) i (drop i ns)
-
-module _ (ns : List Node) (mode a i : ℕ) (left : LeftFrom ns mode a i) where
-  pub node_next : i < length ns → holds_action mode a (get_or ns i no_node) ≡ false → LeftFrom ns mode a (i + 1)
-  unfolding first_node
-  node_next l t = left ∙ rw (drop-cons ns i no_node l, t, add-one)
-
-  module _ (es : List Edge) (known : mode < 16) where
-    pub node_here : i < length ns → holds_action mode a (get_or ns i no_node) ≡ true → accept (some i) ≡ find (graph_by ns es) mode a
-    unfolding find first_node
-    node_here l t = rw (lt-ltb mode 16 known, left, drop-cons ns i no_node l, t)
-
-    pub node_none : length ns ≤ i → accept none ≡ find (graph_by ns es) mode a
-    unfolding find first_node
-    node_none l = rw (lt-ltb mode 16 known, left, drop_of_length-le ns l)
 
 -- ---- what the search's answer says of the edges
 module _ (n : ℕ) (ev : Event) (p : ℕ → Bool) (same : (w : ℕ) → is_edge n ev (edge_of w) ≡ p w) where
@@ -118,57 +170,51 @@ module _ (n : ℕ) (ev : Event) (p : ℕ → Bool) (same : (w : ℕ) → is_edge
       go true ih h = ap (λ (e : Edge). e ∷ map edge_of xs) (sym ew)
       go false ih h = ap (λ (l : List Edge). edge_of x ∷ l) (ih (omega arith))
 
--- ---- a word that goes in for an edge: m and ys are the graph's count and its words, n and i what the code has for the total and the place
-module _ (ns : List Node) (m : ℕ) (ys : List ℕ) (from code to n i w : ℕ) (hf : from < 65536) (ht : to < 65536) (hy : length ys ≡ 2048)
-    (hn : n ≡ min m 2048) (hi : i ≡ first_place (key_is (from + code * 65536)) (take m ys)) (hw : w ≡ to + 65536 * (from + code * 65536)) where
+-- ---- a word that goes in for an edge, at the place that a search gave
+module _ (ns : List Node) (ws : List ℕ) (from code to i w : ℕ) (hf : from < 65536) (ht : to < 65536)
+    (hi : i ≡ first_place (key_is (from + code * 65536)) ws) (hw : w ≡ to + 65536 * (from + code * 65536)) where
   private_same : (x : ℕ) → is_edge from (event_at code) (edge_of x) ≡ key_is (from + code * 65536) x
   private_same x = edge_key from code x hf
 
   word_is : edge_of w ≡ record { from = from; event = event_at code; to = to }
   word_is = rw hw (edge_word from code to hf ht)
 
-  pub edge_replaced : i < n → accept (record { nodes = ns; edges = edges_of (set ys i w) m }) ≡ add_edge from to (event_at code) (record { nodes = ns; edges = edges_of ys m })
+  pub edge_replaced : i < length ws → accept (graph_by ns (map edge_of (set ws i w))) ≡ add_edge from to (event_at code) (graph_by ns (map edge_of ws))
   unfolding add_edge get_edge put_edge
   edge_replaced h =
-      let l : first_place (key_is (from + code * 65536)) (take m ys) < length (take m ys) = omega (arith, length-take m ys) in
-      let k : i < m = omega arith in
-      let e = end_found from (event_at code) (key_is (from + code * 65536)) private_same (take m ys) l in
-      let q = replace_found from (event_at code) (key_is (from + code * 65536)) private_same to w word_is (take m ys) l in
-      rw (e, take-set-lt m ys i w k, q, hi)
+      let l : first_place (key_is (from + code * 65536)) ws < length ws = omega arith in
+      let e = end_found from (event_at code) (key_is (from + code * 65536)) private_same ws l in
+      let q = replace_found from (event_at code) (key_is (from + code * 65536)) private_same to w word_is ws l in
+      rw (e, q, hi)
 
-  pub edge_appended : n ≤ i → n < 2048 → accept (record { nodes = ns; edges = edges_of (set ys n w) (n + 1) }) ≡ add_edge from to (event_at code) (record { nodes = ns; edges = edges_of ys m })
+  pub edge_appended : length ws ≤ i → length ws < 2048 → accept (graph_by ns (map edge_of (ws ++ (w ∷ [])))) ≡ add_edge from to (event_at code) (graph_by ns (map edge_of ws))
   unfolding add_edge get_edge put_edge
   edge_appended h r =
-      let b = first_most (key_is (from + code * 65536)) (take m ys) in
-      let l : length (take m ys) ≤ first_place (key_is (from + code * 65536)) (take m ys) = omega (arith, length-take m ys) in
-      let u : length (edges_of ys m) < 2048 = omega (arith, length-map (take m ys) edge_of, length-take m ys) in
-      let k : m < length ys = omega arith in
-      let s : n ≡ m = omega arith in
-      let e = end_none from (event_at code) (key_is (from + code * 65536)) private_same (take m ys) l in
-      rw (e, lt-ltb (length (edges_of ys m)) 2048 u, s, add-one, take-suc-set ys m w k, map-append edge_of (take m ys) (w ∷ []), word_is)
+      let l : length ws ≤ first_place (key_is (from + code * 65536)) ws = omega arith in
+      let u : length (map edge_of ws) < 2048 = omega (arith, length-map ws edge_of) in
+      let e = end_none from (event_at code) (key_is (from + code * 65536)) private_same ws l in
+      rw (e, lt-ltb (length (map edge_of ws)) 2048 u, map-append edge_of ws (w ∷ []), word_is)
 
-  pub edge_full : n ≤ i → 2048 ≤ n → refuse 3 ≡ add_edge from to (event_at code) (record { nodes = ns; edges = edges_of ys m })
+  pub edge_full : length ws ≤ i → 2048 ≤ length ws → refuse 3 ≡ add_edge from to (event_at code) (graph_by ns (map edge_of ws))
   unfolding add_edge get_edge put_edge
   edge_full h r =
-      let l : length (take m ys) ≤ first_place (key_is (from + code * 65536)) (take m ys) = omega (arith, length-take m ys) in
-      let u : 2048 ≤ length (edges_of ys m) = omega (arith, length-map (take m ys) edge_of, length-take m ys) in
-      let e = end_none from (event_at code) (key_is (from + code * 65536)) private_same (take m ys) l in
-      rw (e, le-ltb (length (edges_of ys m)) 2048 u)
+      let l : length ws ≤ first_place (key_is (from + code * 65536)) ws = omega arith in
+      let u : 2048 ≤ length (map edge_of ws) = omega (arith, length-map ws edge_of) in
+      let e = end_none from (event_at code) (key_is (from + code * 65536)) private_same ws l in
+      rw (e, le-ltb (length (map edge_of ws)) 2048 u)
 
--- ---- end_of
-module _ (ys : List ℕ) (m node code n i : ℕ) (hd : node < 65536) (hn : n ≡ min m (length ys)) (hi : i ≡ first_place (key_is (node + code * 65536)) (take m ys)) where
-  pub end_at_lem : i < n → some (get_or ys i 0 % 65536) ≡ end_in (edges_of ys m) node (event_at code)
+-- ---- the end of the edge that a search found
+module _ (ws : List ℕ) (node code i : ℕ) (hd : node < 65536) (hi : i ≡ first_place (key_is (node + code * 65536)) ws) where
+  pub edge_found : i < length ws → some (get_or ws i 0 % 65536) ≡ end_in (map edge_of ws) node (event_at code)
   unfolding edge_of
-  end_at_lem h =
-      let l : first_place (key_is (node + code * 65536)) (take m ys) < length (take m ys) = omega (arith, length-take m ys) in
-      let k : i < m = omega arith in
-      let e = end_found node (event_at code) (key_is (node + code * 65536)) (λ x. edge_key node code x hd) (take m ys) l in
-      sym (e ∙ rw (← hi, get_or-take m ys i 0 k))
+  edge_found h =
+      let l : first_place (key_is (node + code * 65536)) ws < length ws = omega arith in
+      sym (end_found node (event_at code) (key_is (node + code * 65536)) (λ x. edge_key node code x hd) ws l ∙ rw (← hi))
 
-  pub end_no : n ≤ i → none ≡ end_in (edges_of ys m) node (event_at code)
-  end_no h =
-      let l : length (take m ys) ≤ first_place (key_is (node + code * 65536)) (take m ys) = omega (arith, length-take m ys) in
-      sym (end_none node (event_at code) (key_is (node + code * 65536)) (λ x. edge_key node code x hd) (take m ys) l)
+  pub edge_missed : length ws ≤ i → none ≡ end_in (map edge_of ws) node (event_at code)
+  edge_missed h =
+      let l : length ws ≤ first_place (key_is (node + code * 65536)) ws = omega arith in
+      sym (end_none node (event_at code) (key_is (node + code * 65536)) (λ x. edge_key node code x hd) ws l)
 
 -- ---- following, by whatever gives the end of an event's edge
 module _ (end : Event → Option ℕ) where
@@ -188,11 +234,25 @@ module _ (end : Event → Option ℕ) where
   unfolding follow_first lastly
   follow_ends e = rw e
 
-  pub members_step : (key w : ℕ) (cs : List ClassEntry) (o : Option ℕ) → member_end end key w ≡ o → follow_members end key (class_at w ∷ cs) ≡ or_else_by (Class (w % 65536)) o (follow_members end key cs)
-  unfolding member_end memberships class_events follow_first or_else_by class_at
-  members_step key w cs o h = pick (holds_key (class_at w) key) o h
-    where
-      pick : (b : Bool) (o : Option ℕ) → (if b then end (Class (w % 65536)) else none) ≡ o
-          → follow_first end (class_events ((if b then (class_at w).class ∷ [] else []) ++ memberships cs key)) ≡ or_else_by (Class (w % 65536)) o (follow_members end key cs)
-      pick true o h = rw h
-      pick false o h = rw (← h)
+  -- the first entry of the class table
+  module _ (key w : ℕ) (cs : List ClassEntry) where
+    pub members_other : holds_key (class_at w) key ≡ false → follow_members end key (class_at w ∷ cs) ≡ follow_members end key cs
+    unfolding memberships
+    members_other h = rw h
+
+    module _ (h : holds_key (class_at w) key ≡ true) where
+      pub members_miss : end (Class (w % 65536)) ≡ none → follow_members end key (class_at w ∷ cs) ≡ follow_members end key cs
+      unfolding memberships class_events follow_first or_else_by class_at
+      members_miss e = rw (h, e)
+
+      pub members_hit : (to : ℕ) → end (Class (w % 65536)) ≡ some to → follow_members end key (class_at w ∷ cs) ≡ Successor (Class (w % 65536)) to
+      unfolding memberships class_events follow_first or_else_by class_at
+      members_hit to e = rw (h, e)
+
+-- ---- the node at a number, by its words
+module _ (ps : List NodeWords) (i : ℕ) where
+  pub node_here : i < length ps → (d : NodeWords) → node_in (get_or ps i d) ≡ get_or (map node_in ps) i no_node
+  node_here h d = sym (get_or-map node_in ps i d no_node h)
+
+  pub node_missing : length ps ≤ i → no_node ≡ get_or (map node_in ps) i no_node
+  node_missing h = sym (get_or-eq_default (map node_in ps) no_node (omega (arith, length-map ps node_in)))

@@ -2,4 +2,4 @@
 pub mod Edges
 pub mod Finds
 pub mod Links
-pub mod Places
+pub mod Stores

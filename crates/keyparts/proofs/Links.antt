@@ -3,7 +3,7 @@
 -- the chain that it is on. An index is made so from the last edge to the first; and an edge that goes behind the last one, with a
 -- key that none has, may be the first of its chain as well.
 use Rattle.std.specs.Prelude.{if◌then◌else◌}
-use Prim.Native.Nat.{ℕ, zero, suc, ◌+◌, ◌-◌, ◌*◌, ◌/◌, ◌%◌, ◌<◌, ◌≤◌, min}
+use Prim.Native.Nat.{ℕ, zero, suc, ◌+◌, ◌-◌, ◌*◌, ◌/◌, ◌%◌, ◌<◌, ◌≤◌}
 use mathlib.Core.Path.{◌≡◌, refl, sym, ap, ◌∙◌, subst}
 use mathlib.Core.Bool.{Bool, true, false}
 use mathlib.Core.List.{List, [], ◌∷◌, ◌++◌, map}
@@ -11,30 +11,27 @@ use mathlib.Core.Option.{none, some}
 use native.Mathlib.Omega.{arith}
 use lib.Dec.{ltb, eqb}
 use lib.ListN.{length, take, drop, set, get_or, replicate, length-set, length-take, length-append, length-replicate, get_or-replicate, drop_of_length-le, get_or-append}
-use lib.Seq.{take_all, drop-cons, get_or-take, get_or-set_same, get_or-set_other, get_or-append_seam}
+use lib.Seq.{take_all, drop-cons, get_or-set_same, get_or-set_other, get_or-append_seam}
 use borrow.Author.Tests.{lt-ltb, le-ltb, eq-eqb, eqb-true, eqb-false, ltb-true, ltb-false}
 use Rattle.rules.specs.Values.{Event}
 use Rattle.rules.specs.Tables.{ClassEntry}
-use Rattle.rules.specs.Graph.{is_edge, end_in, get_edge, follow_first, follow_edge, events_of, or_else_by, lastly, Node}
-use Rattle.keyvalues.specs.View.{event_at, event_code, graph_by}
-use Rattle.keyparts.specs.View.{edge_of, first_place, key_is, reached, chain_of, place_on, linked_place, end_at, linked_end, link_at, follow_links, Indexed}
+use Rattle.rules.specs.Graph.{is_edge, end_in, get_edge, follow_first, follow_edge, events_of, or_else_by, lastly}
+use Rattle.keyvalues.specs.View.{event_at, event_code}
+use Rattle.keyparts.specs.View.{edge_of, edge_words, graph_of, first_place, key_is, chain_of, place_on, linked_place, end_at, linked_end, link_at, follow_links, Indexed}
+use Rattle.keyparts.specs.declared.graph.Graph.{Graph}
 use Rattle.rules.proofs.Tests.{and_l, and_r, by_cases, event_is}
 use Rattle.keyvalues.proofs.Words.{code_event}
 use Rattle.keyparts.proofs.Edges.{edge_key}
 
--- ---- the words that are reached
+-- ---- the words of the edges
 
-pub length-reached : (m : ℕ) (ys : List ℕ) → length (reached ys m) ≡ min (min m 2048) (length ys)
-length-reached m ys = omega (arith, length-take 2048 (take m ys), length-take m ys)
+pub edges_short : (x : Graph) → length (edge_words x) ≤ 2048
+unfolding edge_words
+edges_short x = omega (arith, length-take 2048 (take x.counts.edges x.edges))
 
-pub reached_short : (m : ℕ) (ys : List ℕ) → length (reached ys m) ≤ 2048
-reached_short m ys = omega (arith, length-take 2048 (take m ys))
-
-pub reached_all : (m : ℕ) (ys : List ℕ) → length ys ≤ 2048 → reached ys m ≡ take m ys
-reached_all m ys h = take_all 2048 (take m ys) (omega (arith, length-take m ys))
-
-pub reached_at : (m : ℕ) (ys : List ℕ) (i n : ℕ) → n ≡ min (min m 2048) (length ys) → i < n → get_or (reached ys m) i 0 ≡ get_or ys i 0
-reached_at m ys i n e h = get_or-take 2048 (take m ys) i 0 (omega arith) ∙ get_or-take m ys i 0 (omega arith)
+pub edges_all : (x : Graph) → length x.edges ≡ 2048 → take x.counts.edges x.edges ≡ edge_words x
+unfolding edge_words
+edges_all x h = sym (take_all 2048 (take x.counts.edges x.edges) (omega (arith, length-take x.counts.edges x.edges)))
 
 -- ---- tests
 
@@ -356,43 +353,38 @@ module _ (ws ls : List ℕ) (short : length ws ≤ 2048) (h : Indexed ws ls) whe
   unfolding linked_end
   indexed_end n ev = ap (end_at ws n ev) (indexed_place (n + event_code ev * 65536)) ∙ end_first n ev ws
 
+-- the same of a graph
+module _ (x : Graph) (ls : List ℕ) (h : Indexed (edge_words x) ls) where
+  pub index_place : (key : ℕ) → linked_place (edge_words x) ls key ≡ first_place (key_is key) (edge_words x)
+  index_place key = indexed_place (edge_words x) ls (edges_short x) h key
+
+  pub index_end : (n : ℕ) (ev : Event) → linked_end (edge_words x) ls n ev ≡ get_edge (graph_of x) n ev
+  unfolding get_edge graph_of
+  index_end n ev = indexed_end (edge_words x) ls (edges_short x) h n ev
+
   -- following by the links is following in the graph
-  pub indexed_follow : (ns : List Node) (cs : List ClassEntry) (n k : ℕ) → follow_links cs ws ls n k ≡ follow_edge cs (graph_by ns (map edge_of ws)) n k
-  unfolding follow_links follow_edge get_edge follow_first
-  indexed_follow ns cs n k = go (events_of cs k)
+  pub index_follow : (cs : List ClassEntry) (n k : ℕ) → follow_links cs (edge_words x) ls n k ≡ follow_edge cs (graph_of x) n k
+  unfolding follow_links follow_edge follow_first
+  index_follow cs n k = go (events_of cs k)
     where
-      go : (evs : List Event) → follow_first (linked_end ws ls n) evs ≡ follow_first (get_edge (graph_by ns (map edge_of ws)) n) evs
-      go [] = ap lastly (indexed_end n _)
-      go (ev ∷ evs) = rw (indexed_end n ev) (ap (or_else_by ev (end_in (map edge_of ws) n ev)) (go evs))
+      go : (evs : List Event) → follow_first (linked_end (edge_words x) ls n) evs ≡ follow_first (get_edge (graph_of x) n) evs
+      go [] = ap lastly (index_end n _)
+      go (ev ∷ evs) = rw (index_end n ev) (ap (or_else_by ev (get_edge (graph_of x) n ev)) (go evs))
 
--- the same where all words are reached
-module _ (ys : List ℕ) (m : ℕ) (ls : List ℕ) (low : length ys ≤ 2048) (h : Indexed (take m ys) ls) where
-  few : length (take m ys) ≤ 2048
-  few = omega (arith, length-take m ys)
+-- ---- one step of a search along a chain
+module _ (ws ls : List ℕ) (key i : ℕ) where
+  pub chain_out : (k : ℕ) → length ws ≤ i → place_on k ws ls key i ≡ length ws
+  chain_out k h = place_out ws ls key k i h
 
-  pub reached_place : (key : ℕ) → linked_place (reached ys m) ls key ≡ first_place (key_is key) (take m ys)
-  reached_place key = rw (reached_all m ys low) (indexed_place (take m ys) ls few h key)
-
-  pub reached_end : (n : ℕ) (ev : Event) → linked_end (reached ys m) ls n ev ≡ end_in (map edge_of (take m ys)) n ev
-  reached_end n ev = rw (reached_all m ys low) (indexed_end (take m ys) ls few h n ev)
-
--- ---- one step of a search along a chain, at the words' places
-module _ (ys : List ℕ) (m : ℕ) (ls : List ℕ) (key n i : ℕ) (hn : n ≡ min (min m 2048) (length ys)) where
-  pub chain_out : (k : ℕ) → n ≤ i → place_on k (reached ys m) ls key i ≡ n
-  chain_out k h = let e = length-reached m ys in place_out (reached ys m) ls key k i (omega arith) ∙ omega arith
-
-  module _ (k left : ℕ) (hk : left ≡ suc k) (h : i < n) where
-    step_is : place_on left (reached ys m) ls key i ≡ (if key_is key (get_or ys i 0) then i else place_on k (reached ys m) ls key (get_or ls i 0))
+  module _ (k left : ℕ) (hk : left ≡ suc k) (h : i < length ws) where
+    step_is : place_on left ws ls key i ≡ (if key_is key (get_or ws i 0) then i else place_on k ws ls key (get_or ls i 0))
     unfolding place_on
-    step_is =
-        let e = length-reached m ys in
-        let l : i < length (reached ys m) = omega arith in
-        rw (hk, lt-ltb i (length (reached ys m)) l, reached_at m ys i n hn h)
+    step_is = rw (hk, lt-ltb i (length ws) h)
 
-    pub chain_hit : key_is key (get_or ys i 0) ≡ true → place_on left (reached ys m) ls key i ≡ i
+    pub chain_hit : key_is key (get_or ws i 0) ≡ true → place_on left ws ls key i ≡ i
     chain_hit t = step_is ∙ rw t
 
-    pub chain_miss : key_is key (get_or ys i 0) ≡ false → place_on left (reached ys m) ls key i ≡ place_on k (reached ys m) ls key (get_or ls i 0)
+    pub chain_miss : key_is key (get_or ws i 0) ≡ false → place_on left ws ls key i ≡ place_on k ws ls key (get_or ls i 0)
     chain_miss t = step_is ∙ rw t
 
 -- ---- the end of the edge at the place that a search gave
@@ -408,20 +400,14 @@ place_has ws ls key (suc k) i h = go (ltb i (length ws)) (key_is key (get_or ws 
     go true true e ih h = e
     go true false e ih h = ih h
 
-module _ (ys : List ℕ) (m : ℕ) (ls : List ℕ) (node code n i : ℕ) (hd : node < 65536) (hn : n ≡ min (min m 2048) (length ys))
-    (hi : i ≡ linked_place (reached ys m) ls (node + code * 65536)) where
-  pub linked_hit : i < n → some (get_or ys i 0 % 65536) ≡ linked_end (reached ys m) ls node (event_at code)
+module _ (ws ls : List ℕ) (node code i : ℕ) (hd : node < 65536) (hi : i ≡ linked_place ws ls (node + code * 65536)) where
+  pub linked_hit : i < length ws → some (get_or ws i 0 % 65536) ≡ linked_end ws ls node (event_at code)
   unfolding linked_end linked_place end_at edge_of
   linked_hit h =
-      let e = length-reached m ys in
-      let l : i < length (reached ys m) = omega arith in
-      let t = place_has (reached ys m) ls (node + code * 65536) 2048 (get_or ls (chain_of (node + code * 65536)) 0) (subst (λ (j : ℕ). j < length (reached ys m)) hi l) in
-      let k : key_is (node + code * 65536) (get_or ys i 0) ≡ true = rw (← hi, reached_at m ys i n hn h) at t in
-      rw (code_event code, ← hi, lt-ltb i (length (reached ys m)) l, reached_at m ys i n hn h) (rw (edge_key node code (get_or ys i 0) hd, k))
+      let t = place_has ws ls (node + code * 65536) 2048 (get_or ls (chain_of (node + code * 65536)) 0) (subst (λ (j : ℕ). j < length ws) hi h) in
+      let k : key_is (node + code * 65536) (get_or ws i 0) ≡ true = rw (← hi) at t in
+      rw (code_event code, ← hi, lt-ltb i (length ws) h) (rw (edge_key node code (get_or ws i 0) hd, k))
 
-  pub linked_miss : n ≤ i → none ≡ linked_end (reached ys m) ls node (event_at code)
+  pub linked_miss : length ws ≤ i → none ≡ linked_end ws ls node (event_at code)
   unfolding linked_end end_at
-  linked_miss h =
-      let e = length-reached m ys in
-      let l : length (reached ys m) ≤ i = omega arith in
-      rw (code_event code, ← hi, le-ltb i (length (reached ys m)) l)
+  linked_miss h = rw (code_event code, ← hi, le-ltb i (length ws) h)

@@ -1,19 +1,15 @@
 -- What a graph's words and the declared types of this crate mean, in the values of the rules, and following by any links. Every
 -- word decodes to something, and any links lead somewhere.
-use Rattle.std.specs.Prelude.{ℕ, zero, suc, ◌+◌, ◌*◌, ◌/◌, ◌%◌, ◌<◌, ◌≤◌, ◌≡◌, Bool, List, [], ◌∷◌, map, ltb, eqb, length, take, drop, set, get_or, if◌then◌else◌}
+use Rattle.std.specs.Prelude.{ℕ, zero, suc, ◌+◌, ◌*◌, ◌/◌, ◌%◌, ◌<◌, ◌≤◌, ◌≡◌, Bool, List, [], ◌∷◌, map, ltb, eqb, length, take, set, get_or, if◌then◌else◌}
 use Rattle.std.proofs.Math.Option.{Option, none, some}
-use Rattle.rules.specs.Basics.{Result, accept, refuse}
 use Rattle.rules.specs.Values as v
-use Rattle.rules.specs.Tables.{ClassEntry, holds_key, memberships}
+use Rattle.rules.specs.Tables.{ClassEntry, memberships}
 use Rattle.rules.specs.Graph as g
 use Rattle.keyvalues.specs.declared.node.NodeWords.{NodeWords}
-use Rattle.keyvalues.specs.View.{event_of, event_at, event_code, nodes_of, graph_by, class_at}
-use Rattle.keyparts.specs.declared.graph.Counts.{Counts}
+use Rattle.keyvalues.specs.View.{event_of, event_at, event_code, node_in, graph_by}
 use Rattle.keyparts.specs.declared.graph.Graph.{Graph}
 use Rattle.keyparts.specs.declared.follow.FollowResult.{FollowResult}
 use Rattle.keyparts.specs.declared.follow.FollowResult.TheVariants.{Successor, Fallthrough as Falls, NoSuccessor}
-use Rattle.keyparts.specs.declared.find.Found.{Found}
-use Rattle.keyparts.specs.declared.find.Found.TheVariants.{Refused as RefusedFind, At, Nothing as NothingFound}
 
 -- ---- the declared types
 
@@ -22,46 +18,23 @@ follow_of (Successor ev to) = g.Successor (event_of ev) to
 follow_of (Falls to) = g.FallsTo to
 follow_of NoSuccessor = g.NoSuccessor
 
-abbrev pub found_of : Found → Result (Option ℕ)
-found_of (RefusedFind n) = refuse n
-found_of (At n) = accept (some n)
-found_of NothingFound = accept none
-
--- ---- edges: a word for each
+-- ---- a graph's words: one for each edge, two for each node
 
 unfoldable pub edge_of : ℕ → g.Edge
 edge_of w = record { from = w / 65536 % 65536; event = event_at (w / 65536 / 65536); to = w % 65536 }
 
-abbrev pub edges_of : List ℕ → ℕ → List g.Edge
-edges_of ws n = map edge_of (take n ws)
+-- the words of the edges that count, where there is room for 2,048
+abbrev pub edges_from : List ℕ → ℕ → List ℕ
+edges_from ws n = take 2048 (take n ws)
 
--- ---- a graph's words: the edges', the nodes' first words, the nodes' second words
+abbrev pub nodes_from : List NodeWords → ℕ → List g.Node
+nodes_from ps n = map node_in (take n ps)
 
-unfoldable pub edge_words : List ℕ → List ℕ
-edge_words ws = take 2048 ws
+unfoldable pub edge_words : Graph → List ℕ
+edge_words x = edges_from x.edges x.counts.edges
 
-unfoldable pub head_words : List ℕ → List ℕ
-head_words ws = take 1040 (drop 2048 ws)
-
-unfoldable pub act_words : List ℕ → List ℕ
-act_words ws = take 1040 (drop 3088 ws)
-
--- the graph in heads, acts and edges
-abbrev pub graph_from : List ℕ → List ℕ → List ℕ → Counts → g.Graph
-graph_from hs ws es k = graph_by (nodes_of hs ws k.nodes) (edges_of es k.edges)
-
-abbrev pub graph_in : List ℕ → Counts → g.Graph
-graph_in ws k = graph_from (head_words ws) (act_words ws) (edge_words ws) k
-
-abbrev pub graph_of : Graph → g.Graph
-graph_of x = graph_in x.words x.counts
-
--- the graph in words of which that of one edge, or those of one node, are replaced
-abbrev pub with_edge : List ℕ → ℕ → ℕ → Counts → g.Graph
-with_edge ws i w k = graph_from (head_words ws) (act_words ws) (set (edge_words ws) i w) k
-
-abbrev pub with_node : List ℕ → ℕ → NodeWords → Counts → g.Graph
-with_node ws n p k = graph_from (set (head_words ws) n p.head) (set (act_words ws) n p.acts) (edge_words ws) k
+unfoldable pub graph_of : Graph → g.Graph
+graph_of x = graph_by (nodes_from x.nodes x.counts.nodes) (map edge_of (edge_words x))
 
 -- ---- searches
 
@@ -74,10 +47,6 @@ unfoldable pub key_is : ℕ → ℕ → Bool
 key_is key w = eqb (w / 65536) key
 
 -- ---- an index of the edges: a link from each edge to the next of its chain, and then to the first edge of each chain
-
--- the words that an index reaches
-abbrev pub reached : List ℕ → ℕ → List ℕ
-reached ws n = take 2048 (take n ws)
 
 -- where the link to the first edge of a chain stands; the edges of one start and one event are on one chain
 unfoldable pub chain_of : ℕ → ℕ
@@ -124,10 +93,6 @@ pub record Indexed (ws ls : List ℕ) : Type 0 where
 -- following as the links lead
 unfoldable pub follow_links : List ClassEntry → List ℕ → List ℕ → ℕ → ℕ → g.Follow
 follow_links cs ws ls n k = g.follow_first (linked_end ws ls n) (g.events_of cs k)
-
--- the end of the Class edge that one entry gives the key
-unfoldable pub member_end : (v.Event → Option ℕ) → ℕ → ℕ → Option ℕ
-member_end end key w = if holds_key (class_at w) key then end (v.Class (w % 65536)) else none
 
 -- following by the class table and what comes after it
 abbrev pub follow_members : (v.Event → Option ℕ) → ℕ → List ClassEntry → g.Follow

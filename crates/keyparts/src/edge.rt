@@ -1,59 +1,79 @@
 // Edges: a word for each, with its end in the low 16 bits, then its start, then its event's code.
-ghost use Rattle.std.specs.Prelude.{◌≡◌, List, take};
+ghost use Rattle.std.specs.Prelude.{◌≡◌, ◌≤◌, length};
+ghost use Rattle.std.specs.List.{list_any};
 ghost use Rattle.rules.specs.Graph as g;
-ghost use Rattle.keyvalues.specs.View.{event_at, graph_by, maybe_of};
-ghost use Rattle.keyparts.specs.View.{edges_of, first_place, key_is};
+ghost use Rattle.keyvalues.specs.View.{event_at, maybe_of};
+ghost use Rattle.keyparts.specs.View.{graph_of, edge_words, first_place, key_is};
 
-use keyvalues::number;
+use crate::graph::Graph;
+use keyvalues::{list, number};
 
-// The place of the first of the first `count` words with this key in its upper 48 bits, or their number. Two words a turn:
-// this loop is most of what adding a binding costs.
-pub(crate) fn scan(edges: &[u64], count: u16, key: u64) -> usize
-    ensures { result ≡ first_place (key_is key) (take count edges.now) }
+// So many words are compared at once: a block is searched with no branch in it.
+const BLOCK: usize = 8;
+
+// Has a word of the block this key in its upper 48 bits?
+fn block_has(block: &[u64; BLOCK], key: u64) -> bool
+    ensures { result ≡ list_any (key_is key) block.now }
 {
-    let n = number::least(count, edges.len());
-    let mut i = 0usize;
-    while i + 1 < n {
-        if edges[i] / 65536 == key {
-            return i;
-        }
-        if edges[i + 1] / 65536 == key {
-            return i + 1;
-        }
-        i = i + 2;
+    let mut met = false;
+    for word in block {
+        met = met | (*word / 65536 == key);
     }
-    if i < n {
-        if edges[i] / 65536 == key {
-            return i;
-        }
-    }
-    n
+    met
 }
 
-// The end of the node's edge for the event of the code.
-pub(crate) fn get_edge(edges: &[u64], count: u16, node: u16, code: u32) -> Option<u16>
-    ensures { (ns : List g.Node) → maybe_of result ≡ g.get_edge (graph_by ns (edges_of edges.now count)) node (event_at code) }
+// How many words stand in the blocks before the first that has the key.
+fn words_passed(words: &[u64], key: u64) -> usize
+    ensures before { result ≤ first_place (key_is key) words.now }
+    ensures within { result ≤ length words.now }
 {
-    let n = number::least(count, edges.len());
-    let key = number::key_of(node, code);
-    let i = scan(edges, count, key);
-    if i < n {
-        return Some(number::low(edges[i]));
-    }
-    None
+    let (blocks, _) = words.as_chunks::<BLOCK>();
+    let passed = blocks.iter().position(|block| block_has(block, key));
+    passed.unwrap_or(blocks.len()) * BLOCK
 }
 
-pub(crate) fn has_edges(edges: &[u64], count: u16, node: u16) -> bool
-    ensures { (ns : List g.Node) → result ≡ g.has_edges (graph_by ns (edges_of edges.now count)) node }
+// The place of the first word with this key, or how many words there are. This search is most of what adding a binding costs.
+fn scan(words: &[u64], key: u64) -> usize
+    ensures { result ≡ first_place (key_is key) words.now }
 {
-    let n = number::least(count, edges.len());
-    let mut i = 0usize;
-    while i < n {
-        let w = edges[i];
-        if number::low(w / 65536) == node {
-            return true;
-        }
-        i = i + 1;
+    let passed = words_passed(words, key);
+    let rest = &words[passed..];
+    let place = rest.iter().position(|word| *word / 65536 == key);
+    passed + place.unwrap_or(rest.len())
+}
+
+impl Graph {
+    // The words of the edges that are there.
+    pub(crate) fn edge_words(&self) -> &[u64]
+        ensures { result.now ≡ edge_words self.now }
+    {
+        list::front(&self.edges, self.counts.edges)
     }
-    false
+
+    // Where the edge with this key in the upper 48 bits of its word stands, or how many edges there are.
+    pub fn place(&self, key: u64) -> usize
+        ensures { result ≡ first_place (key_is key) (edge_words self.now) }
+    {
+        scan(self.edge_words(), key)
+    }
+
+    // The end of the node's edge for the event of the code.
+    pub fn get_edge(&self, node: u16, code: u32) -> Option<u16>
+        ensures { maybe_of result ≡ g.get_edge (graph_of self.now) node (event_at code) }
+    {
+        let place = self.place(number::key_of(node, code));
+        let word = self.edge_words().get(place)?;
+        Some(number::low(*word))
+    }
+
+    pub fn has_edges(&self, node: u16) -> bool
+        ensures { result ≡ g.has_edges (graph_of self.now) node }
+    {
+        for word in self.edge_words() {
+            if number::low(*word / 65536) == node {
+                return true;
+            }
+        }
+        false
+    }
 }

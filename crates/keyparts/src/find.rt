@@ -1,50 +1,46 @@
-// Finding a node by its mode and an action of its step.
-ghost use Rattle.std.specs.Prelude.{◌≡◌, List, ℕ, length};
-ghost use Rattle.rules.specs.Graph as g;
-ghost use Rattle.rules.specs.Calls.{HintFits, find};
-ghost use Rattle.keyvalues.specs.View.{nodes_of, graph_by};
-ghost use Rattle.keyparts.specs.View.{found_of};
+// Finding a node by its mode and an action of its step, and the hint.
+ghost use Rattle.std.specs.Prelude.{◌≡◌};
+ghost use Rattle.rules.specs.Calls.{HintFits, find, holds_action};
+ghost use Rattle.keyvalues.specs.View.{maybe_of, node_in, told};
+ghost use Rattle.keyparts.specs.View.{graph_of};
 
 use crate::graph::Graph;
+use keyvalues::node::NodeWords;
+use keyvalues::refusal::Refusal;
 use keyvalues::tables::TableWords;
-use keyvalues::{node, number};
+use keyvalues::{list, number};
 
-#[derive(Clone, Copy)]
-pub enum Found {
-    Refused(u16),
-    At(u16),
-    Nothing,
+// Is the node of these words of the mode, with a step that has the action? The mode is tested first: most nodes are of another,
+// and need not be read whole.
+#[tactic(auto, unfolding(rules::specs::Calls::holds_action, keyvalues::specs::View::node_at))]
+fn has_action(words: &NodeWords, mode: u16, action: u16) -> bool
+    ensures { result ≡ holds_action mode action (node_in words.now) }
+{
+    words.head % 128 == mode as u64 && words.node().holds_action(mode, action)
 }
 
-// The lowest-numbered node of the mode whose step has the action.
-pub(crate) fn find_node<'a>(
-    heads: &'a [u64],
-    acts: &'a [u64],
-    count: u16,
-    mode: u16,
-    action: u16,
-) -> Found
-    ensures { (es : List g.Edge) → found_of result ≡ find (graph_by (nodes_of heads.now acts.now count) es) mode action }
-{
-    if TableWords::MODES <= mode {
-        return Found::Refused(1);
-    }
-    let n = number::least(number::least_of(count, heads.len()), acts.len());
-    let mut i = 0usize;
-    while i < n {
-        let k = i as u16;
-        let x = node::words_at(heads, acts, count, k).node();
-        if x.holds_action(mode, action) {
-            return Found::At(k);
+impl Graph {
+    // The lowest-numbered node of the mode whose step has the action.
+    pub fn find(&self, mode: u16, action: u16) -> Result<Option<u16>, Refusal>
+        ensures { told maybe_of result ≡ find (graph_of self.now) mode action }
+    {
+        if TableWords::MODES <= mode {
+            return Err(Refusal::OutOfRange);
         }
-        i = i + 1;
+        let nodes = list::front(&self.nodes, self.counts.nodes);
+        match nodes
+            .iter()
+            .position(|words| has_action(words, mode, action))
+        {
+            Some(n) => Ok(Some(n as u16)),
+            None => Ok(None),
+        }
     }
-    Found::Nothing
-}
 
-// How many nodes are left beside so many.
-pub(crate) fn free_nodes(count: u16) -> u16
-    ensures { (hs ws : List ℕ) (es : List g.Edge) → length hs ≡ 1040 → length ws ≡ 1040 → HintFits (graph_by (nodes_of hs ws count) es) result }
-{
-    Graph::NODES - number::least_of(count, Graph::NODES as usize)
+    // How many nodes are left.
+    pub fn free_nodes(&self) -> u16
+        ensures { HintFits (graph_of self.now) result }
+    {
+        Graph::NODES - number::least_of(self.counts.nodes, Graph::NODES as usize)
+    }
 }

@@ -1,12 +1,11 @@
-// A graph by value: one array of words and two counts, and what is read from it. `layout.rt` knows where each kind of word
-// stands.
+// A graph by value: the words of its edges and of its nodes, and how many of each count.
 ghost use Rattle.std.specs.Prelude.{◌≡◌};
 ghost use Rattle.rules.specs.Graph as g;
-ghost use Rattle.rules.specs.Calls.{HintFits, find};
-ghost use Rattle.keyparts.specs.View.{graph_of, found_of};
+ghost use Rattle.keyvalues.specs.View.{node_of, node_in};
+ghost use Rattle.keyparts.specs.View.{graph_of};
 
-use crate::find::Found;
-use crate::{find, layout};
+use keyvalues::list;
+use keyvalues::node::{Node, NodeWords};
 use keyvalues::tables::TableWords;
 
 // How many words of the nodes and of the edges count.
@@ -20,7 +19,8 @@ pub struct Counts {
 #[repr(C)]
 #[derive(Clone, Copy)]
 pub struct Graph {
-    pub words: [u64; Graph::WORDS],
+    pub edges: [u64; Graph::EDGES as usize],
+    pub nodes: [NodeWords; Graph::NODES as usize],
     pub counts: Counts,
 }
 
@@ -34,21 +34,20 @@ impl Graph {
 
     pub const EDGES: u16 = 2048;
 
-    // A word for each edge, and two for each node.
-    pub const WORDS: usize = Graph::EDGES as usize + 2 * Graph::NODES as usize;
-
     // No binding: the mode roots alone.
     pub fn fresh() -> Graph
         ensures { graph_of result ≡ g.fresh_graph }
     {
-        let mut words = [0u64; Graph::WORDS];
-        let mut mode = 0usize;
-        while mode < Graph::ROOTS as usize {
-            words[layout::HEADS + mode] = 128 + (mode as u64);
-            mode = mode + 1;
+        let mut nodes = [NodeWords { head: 0, acts: 0 }; Graph::NODES as usize];
+        for mode in 0..Graph::ROOTS {
+            nodes[mode as usize] = NodeWords {
+                head: 128 + (mode as u64),
+                acts: 0,
+            };
         }
         Graph {
-            words: words,
+            edges: [0; Graph::EDGES as usize],
+            nodes: nodes,
             counts: Counts {
                 nodes: Graph::ROOTS,
                 edges: 0,
@@ -56,19 +55,20 @@ impl Graph {
         }
     }
 
-    // How many nodes are left.
-    pub fn free_nodes(self) -> u16
-        ensures { HintFits (graph_of self) result }
+    // The words of a node; those of an empty node of mode 0, where there is no such node.
+    pub fn words(&self, node: u16) -> NodeWords
+        ensures { node_in result ≡ g.get_node (graph_of self.now) node }
     {
-        let n = self.counts.nodes;
-        find::free_nodes(n)
+        match list::front(&self.nodes, self.counts.nodes).get(node as usize) {
+            Some(words) => *words,
+            None => NodeWords { head: 0, acts: 0 },
+        }
     }
 
-    // The lowest-numbered node of the mode whose step has the action.
-    pub fn find(self, mode: u16, action: u16) -> Found
-        ensures { found_of result ≡ find (graph_of self) mode action }
+    // The node at a number.
+    pub fn node(&self, node: u16) -> Node
+        ensures { node_of result ≡ g.get_node (graph_of self.now) node }
     {
-        let n = self.counts;
-        layout::find_node(&self.words, n, mode, action)
+        self.words(node).node()
     }
 }

@@ -2,16 +2,24 @@
 // event without a search of all edges. Edges of one node and one event are on one of 256 chains. An edge has a link to the
 // next on its chain, and behind the 2,048 links of the edges stand the links to the first edge of each chain. Every value
 // of the links leads somewhere, and the search ends on all of them.
-ghost use Rattle.std.specs.Prelude.{◌≡◌, ◌<◌, length};
+ghost use Rattle.std.specs.Prelude.{◌≡◌, ◌<◌};
 ghost use Rattle.keyvalues.specs.View.{event_at, maybe_of};
-ghost use Rattle.keyparts.specs.View.{reached, chain_of, linked_place, linked_end, link_at, Indexed};
+ghost use Rattle.keyparts.specs.View.{edge_words, chain_of, linked_place, linked_end, link_at, Indexed};
 
 use crate::graph::Graph;
 use keyvalues::number;
 
+#[repr(C)]
 #[derive(Clone, Copy)]
 pub struct Index {
     pub links: [u16; Index::LINKS],
+}
+
+// Which link leads to the first edge of the chain for the upper part of an edge's word.
+fn chain_of(key: u64) -> usize
+    ensures { (result ≡ chain_of key) × (result < 2304) }
+{
+    Graph::EDGES as usize + (((key / 65536 % 256 + key % 256) % 256) as usize)
 }
 
 impl Index {
@@ -22,83 +30,56 @@ impl Index {
 
     // Goes from the last edge to the first, so that each chain begins with its first edge. A link to place 2,048, where no
     // edge is, ends a chain.
-    pub(crate) fn new(edges: &[u64], count: u16) -> Index
-        ensures { Indexed (reached edges.now count) result.links }
+    pub fn new(graph: &Graph) -> Index
+        ensures { Indexed (edge_words graph.now) result.links }
     {
-        let mut links = [Graph::EDGES; Index::LINKS];
-        let mut i = number::least(number::least_of(count, Graph::EDGES as usize), edges.len());
-        while 0 < i {
-            i = i - 1;
-            link(&mut links, i, edges[i] / 65536);
+        let words = graph.edge_words();
+        let mut index = Index {
+            links: [Graph::EDGES; Index::LINKS],
+        };
+        for place in (0..words.len()).rev() {
+            index.link(place, words[place] / 65536);
         }
-        Index { links: links }
+        index
     }
-}
 
-// Which link leads to the first edge of the chain for the upper part of an edge's word.
-fn chain_of(key: u64) -> usize
-    ensures { (result ≡ chain_of key) × (result < 2304) }
-{
-    Graph::EDGES as usize + (((key / 65536 % 256 + key % 256) % 256) as usize)
-}
-
-// The edge at this place goes before the chain of its key.
-pub fn link(links: &mut [u16; Index::LINKS], place: usize, key: u64)
-    requires { length links.old ≡ 2304 }
-    ensures { links.new ≡ link_at links.old place key }
-{
-    if Graph::EDGES as usize <= place {
-        return;
-    }
-    let chain = chain_of(key);
-    links[place] = links[chain];
-    links[chain] = place as u16;
-}
-
-// The place of the edge with this key, or the number of edges. `left` ends the search on links that lead in a circle.
-pub(crate) fn linked_place<'a>(
-    edges: &'a [u64],
-    count: u16,
-    links: &'a [u16; Index::LINKS],
-    key: u64,
-) -> usize
-    requires { length links.now ≡ 2304 }
-    ensures { result ≡ linked_place (reached edges.now count) links.now key }
-{
-    let n = number::least(number::least_of(count, Graph::EDGES as usize), edges.len());
-    let all = &links[..];
-    let mut at = all[chain_of(key)];
-    let mut left = Graph::EDGES;
-    while 0 < left {
-        let i = at as usize;
-        if n <= i {
-            return n;
+    // The edge at this place goes before the chain of its key.
+    pub fn link(&mut self, place: usize, key: u64)
+        ensures { self.new.links ≡ link_at self.old.links place key }
+    {
+        if Graph::EDGES as usize <= place {
+            return;
         }
-        if edges[i] / 65536 == key {
-            return i;
-        }
-        at = all[i];
-        left = left - 1;
+        let chain = chain_of(key);
+        self.links[place] = self.links[chain];
+        self.links[chain] = place as u16;
     }
-    n
-}
 
-// The end of the node's edge for the event of the code.
-pub(crate) fn linked_edge<'a>(
-    edges: &'a [u64],
-    count: u16,
-    links: &'a [u16; Index::LINKS],
-    node: u16,
-    code: u32,
-) -> Option<u16>
-    requires { length links.now ≡ 2304 }
-    ensures { maybe_of result ≡ linked_end (reached edges.now count) links.now node (event_at code) }
-{
-    let n = number::least(number::least_of(count, Graph::EDGES as usize), edges.len());
-    let key = number::key_of(node, code);
-    let i = linked_place(edges, count, links, key);
-    if i < n {
-        return Some(number::low(edges[i]));
+    // The place of the edge with this key, or the number of edges. As many steps as there may be edges end the search on links
+    // that lead in a circle.
+    pub fn place(&self, graph: &Graph, key: u64) -> usize
+        ensures { result ≡ linked_place (edge_words graph.now) self.now.links key }
+    {
+        let words = graph.edge_words();
+        let mut at = self.links[chain_of(key)] as usize;
+        for _ in 0..Graph::EDGES {
+            if words.len() <= at {
+                return words.len();
+            }
+            if words[at] / 65536 == key {
+                return at;
+            }
+            at = self.links[at] as usize;
+        }
+        words.len()
     }
-    None
+
+    // The end of the node's edge for the event of the code.
+    pub fn get_edge(&self, graph: &Graph, node: u16, code: u32) -> Option<u16>
+        ensures { maybe_of result ≡ linked_end (edge_words graph.now) self.now.links node (event_at code) }
+    {
+        let place = self.place(graph, number::key_of(node, code));
+        let word = graph.edge_words().get(place)?;
+        Some(number::low(*word))
+    }
 }

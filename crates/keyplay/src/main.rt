@@ -6,9 +6,8 @@ use std::io::{BufWriter, Write};
 
 fn main(rt: HostRuntime) -> io::Result<()> {
     // one byte more than an input may have, so that a longer one shows
-    let mut input = [0u8; 65537];
-    let n = playback::read_full(&mut rt.stdin(), &mut input)?;
+    let input = playback::read_input(rt.alloc(), rt.stdin(), 65537)?;
     let mut out = BufWriter::new(rt.alloc(), rt.stdout())?;
-    playback::answer(&mut out, &input[..n])?;
+    playback::answer(&mut out, &input)?;
     out.flush()
 }

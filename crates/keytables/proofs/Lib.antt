@@ -1,3 +1,2 @@
 -- Laws that belong to no one function.
-pub mod Blocks
 pub mod Packs

@@ -1,13 +1,13 @@
 -- What the words of tables and the declared types mean, in the values of the rules. Every word decodes to something.
-use Rattle.std.specs.Prelude.{ℕ, zero, suc, ◌/◌, ◌%◌, List, [], ◌∷◌, map, take, drop, get_or}
-use Rattle.rules.specs.Basics.{Result, accept, unless}
+use Rattle.std.specs.Prelude.{ℕ, ◌/◌, ◌%◌, List, map, take}
 use Rattle.rules.specs.Tables as t
-use Rattle.keyvalues.specs.View.{four_of, opt_of, classes_in, sizes_in, mode_words, rule_words, maybe_of, fit}
+use Rattle.keyvalues.specs.View.{four_of, opt_of, class_table, mode_table, rule_table, maybe_of, fit}
+use Rattle.keyvalues.specs.declared.tables.TableWords.{TableWords}
+use Rattle.keyvalues.specs.declared.tables.ModeWords.{ModeWords}
 use Rattle.keytables.specs.declared.rule.Rule.{Rule}
 use Rattle.keytables.specs.declared.tables.Actions.{Actions}
 use Rattle.keytables.specs.declared.tables.ClassEntry.{ClassEntry}
 use Rattle.keytables.specs.declared.tables.Tables.{Tables}
-use Rattle.keytables.specs.declared.tables.PackResult.{PackResult}
 use Rattle.keytables.specs.declared.tables.ModeEntry.{ModeEntry}
 
 -- ---- classes and rules
@@ -27,9 +27,6 @@ rule_of w = record {
   status = w / 128 % 8;
 }
 
-abbrev pub rules_of : ℕ → List ℕ → List t.Rule
-rules_of n ws = map rule_of (take n ws)
-
 -- ---- modes
 
 -- a list of actions with the actions that are there
@@ -39,21 +36,13 @@ actions_by a = take a.count a.items
 unfoldable pub entry_by : ModeEntry → t.ModeEntry
 entry_by e = record { enter = actions_by e.enter; unmapped = actions_by e.unmapped; next = maybe_of e.next }
 
--- n blocks of k words
-unfoldable pub blocks : ℕ → ℕ → List ℕ → List (List ℕ)
-blocks k zero ws = []
-blocks k (suc n) ws = take k ws ∷ blocks k n (drop k ws)
-
--- a mode's three words: enter list, unmapped list, and a head with both counts and the next mode
-unfoldable pub entry_of : List ℕ → t.ModeEntry
-entry_of b = record {
-  enter = take (get_or b 2 0 % 8) (four_of (get_or b 0 0));
-  unmapped = take (get_or b 2 0 / 8 % 8) (four_of (get_or b 1 0));
-  next = opt_of (get_or b 2 0 / 64);
+-- a mode's words: enter list, unmapped list, and a head with both counts and the next mode
+unfoldable pub entry_in : ModeWords → t.ModeEntry
+entry_in w = record {
+  enter = take (w.head % 8) (four_of w.enter);
+  unmapped = take (w.head / 8 % 8) (four_of w.unmapped);
+  next = opt_of (w.head / 64);
 }
-
-abbrev pub modes_of : ℕ → List ℕ → List t.ModeEntry
-modes_of n ws = map entry_of (take n (blocks 3 16 ws))
 
 -- ---- tables
 
@@ -61,12 +50,8 @@ abbrev pub tables : List t.ClassEntry → List t.ModeEntry → List t.Rule → t
 tables cs ms rs = record { classes = cs; modes = ms; rules = rs }
 
 -- the tables in their words
-unfoldable pub tables_in : List ℕ → t.Tables
-tables_in ws = tables (classes_in ws) (modes_of (sizes_in ws).modes (mode_words ws)) (rules_of (sizes_in ws).rules (rule_words ws))
-
--- tables that were packed: those of the words, if they were in range
-abbrev pub packed_by : PackResult → Result t.Tables
-packed_by p = unless p.valid 1 (accept (tables_in p.words.words))
+abbrev pub tables_of : TableWords → t.Tables
+tables_of w = tables (class_table w) (map entry_in (mode_table w)) (map rule_of (rule_table w))
 
 -- ---- what a caller hands over: as many as the count says, also where it is past the array's end
 

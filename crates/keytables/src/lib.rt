@@ -2,5 +2,6 @@
 // and what the words mean is said in the rules' terms, by the view of specs/View.antt.
 #![tactic(auto)]
 
+pub mod entry;
 pub mod rule;
 pub mod tables;

@@ -1,13 +1,14 @@
 // A sequence rule, and the word that it is kept in.
-ghost use Rattle.std.specs.Prelude.{◌≡◌, true, ◌<◌};
+ghost use Rattle.std.specs.Prelude.{◌≡◌, ◌<◌};
 ghost use Rattle.rules.specs.Tables.{matches, rule_valid};
 ghost use Rattle.keytables.specs.View.{rule_by, rule_of};
 
+use crate::entry::Entry;
 use keyvalues::number;
 use keyvalues::tables::TableWords;
 
 // The rule tells what the actions from `low` to `high` do to a sequence, in one mode.
-#[derive(Clone, Copy)]
+#[derive(Clone, Copy, Debug, PartialEq, Eq)]
 pub struct Rule {
     pub mode: u16,
     pub low: u16,
@@ -23,6 +24,7 @@ impl Rule {
     pub const SEQUENCES: u16 = 8;
 
     // The rule of a word of the table.
+    #[tactic(auto, unfolding(crate::specs::View::rule_of))]
     pub fn unpack(w: u64) -> Rule
         ensures { (rule_by result ≡ rule_of w) × (result.sequence < 8) }
     {
@@ -35,40 +37,35 @@ impl Rule {
         }
     }
 
-    // A rule that is in range, in a word.
-    pub(crate) fn pack(self) -> u64
-        requires { rule_valid (rule_by self) ≡ true }
-        ensures { rule_of result ≡ rule_by self }
+    // Is the rule for the mode, and does its range hold the action?
+    #[tactic(auto, unfolding(rules::specs::Tables::matches))]
+    pub fn matches(self, mode: u16, action: u16) -> bool
+        ensures { result ≡ matches (rule_by self) mode action }
     {
+        self.mode == mode && self.low <= action && action <= self.high
+    }
+}
+
+impl Entry for Rule {
+    type Words = u64;
+
+    ghost in_range = { λ r. rule_valid (rule_by r) };
+
+    ghost means = { λ w r. rule_of w ≡ rule_by r };
+
+    #[tactic(auto, unfolding(rules::specs::Tables::rule_valid))]
+    fn valid(&self) -> bool {
+        self.mode < TableWords::MODES
+            && self.low <= self.high
+            && self.sequence < Rule::SEQUENCES
+            && self.status < Rule::STATUSES
+    }
+
+    fn pack(&self) -> u64 {
         (self.mode as u64)
             + 16 * (self.sequence as u64)
             + 128 * (self.status as u64)
             + 1024 * (self.low as u64)
             + 67108864 * (self.high as u64)
-    }
-
-    pub fn valid(self) -> bool
-        ensures { result ≡ rule_valid (rule_by self) }
-    {
-        if self.mode < TableWords::MODES {
-            if self.low <= self.high {
-                if self.sequence < Rule::SEQUENCES {
-                    return self.status < Rule::STATUSES;
-                }
-            }
-        }
-        false
-    }
-
-    // Is the rule for the mode, and does its range hold the action?
-    pub fn matches(self, mode: u16, action: u16) -> bool
-        ensures { result ≡ matches (rule_by self) mode action }
-    {
-        if self.mode == mode {
-            if self.low <= action {
-                return action <= self.high;
-            }
-        }
-        false
     }
 }

@@ -1,18 +1,21 @@
 // The tables that a machine is opened with. A caller fills them with any numbers, and `pack` tells whether they are in
 // range and makes the words that a machine keeps.
-ghost use Rattle.std.specs.Prelude.{◌≡◌, true, false, ◌∷◌, [], map, ◌≤◌, ◌<◌, leb, length, take};
-ghost use Rattle.rules.specs.Basics.{every, accept, unless};
+ghost use Rattle.std.specs.Prelude.{◌≡◌, leb, length};
+ghost use Rattle.rules.specs.Basics.{accept, unless};
 ghost use Rattle.rules.specs.Tables as t;
-ghost use Rattle.keyvalues.specs.View.{four_of, classes_of};
-ghost use Rattle.keytables.specs.View.{whole_actions, entry_by, entry_of, whole_entry, class_by, rule_by, modes_of, rules_of, whole_tables, packed_by};
+ghost use Rattle.keyvalues.specs.View.{four_of, class_at, told};
+ghost use Rattle.keytables.specs.View.{whole_actions, entry_by, entry_in, whole_entry, class_by, whole_tables, tables_of};
 
+use crate::entry;
+use crate::entry::Entry;
 use crate::rule::Rule;
 use keyvalues::event::EdgeEvent;
+use keyvalues::refusal::Refusal;
 use keyvalues::step::Step;
-use keyvalues::tables::{Sizes, TableWords};
+use keyvalues::tables::{ModeWords, Sizes, TableWords};
 use keyvalues::{class, node, number, step};
 
-#[derive(Clone, Copy)]
+#[derive(Clone, Copy, Debug, PartialEq, Eq)]
 pub struct ClassEntry {
     pub class: u16,
     pub low: u16,
@@ -20,14 +23,14 @@ pub struct ClassEntry {
 }
 
 // The first `count` actions are the list. A count over 4 is a list that every call refuses.
-#[derive(Clone, Copy)]
+#[derive(Clone, Copy, Debug, PartialEq, Eq)]
 pub struct Actions {
     pub items: [u16; Step::ACTIONS as usize],
     pub count: u16,
 }
 
 // What entering the mode gives, what a key with no binding gives, and which mode such a key leads to.
-#[derive(Clone, Copy)]
+#[derive(Clone, Copy, Debug, PartialEq, Eq)]
 pub struct ModeEntry {
     pub enter: Actions,
     pub unmapped: Actions,
@@ -43,47 +46,20 @@ pub struct Tables {
     pub sizes: Sizes,
 }
 
-// Were the entries in range? If so, the words are theirs.
-#[derive(Clone, Copy)]
-struct PackedClasses {
-    pub valid: bool,
-    pub words: [u64; TableWords::CLASSES as usize],
-}
+impl Entry for ClassEntry {
+    type Words = u64;
 
-#[derive(Clone, Copy)]
-struct PackedModes {
-    pub valid: bool,
-    pub words: [u64; TableWords::MODE_WORDS],
-}
+    ghost in_range = { λ e. t.class_valid (class_by e) };
 
-#[derive(Clone, Copy)]
-struct PackedRules {
-    pub valid: bool,
-    pub words: [u64; TableWords::RULES as usize],
-}
+    ghost means = { λ w e. class_at w ≡ class_by e };
 
-#[derive(Clone, Copy)]
-pub struct PackResult {
-    pub valid: bool,
-    pub words: TableWords,
-}
+    #[tactic(auto, unfolding(rules::specs::Tables::class_valid))]
+    fn valid(&self) -> bool {
+        self.class < EdgeEvent::CLASSES && self.low <= self.high
+    }
 
-// A mode's three words.
-#[derive(Clone, Copy)]
-struct EntryWords {
-    pub enter: u64,
-    pub unmapped: u64,
-    pub head: u64,
-}
-
-impl ClassEntry {
-    pub fn valid(self) -> bool
-        ensures { result ≡ t.class_valid (class_by self) }
-    {
-        if self.class < EdgeEvent::CLASSES {
-            return self.low <= self.high;
-        }
-        false
+    fn pack(&self) -> u64 {
+        class::class_word(self.class, self.low, self.high)
     }
 }
 
@@ -97,8 +73,7 @@ impl Actions {
     fn pack(self) -> u64
         ensures { four_of result ≡ self.items }
     {
-        let items = self.items;
-        number::four_word(items)
+        number::four_word(self.items)
     }
 }
 
@@ -118,32 +93,54 @@ impl ModeEntry {
         }
     }
 
-    pub fn valid(self) -> bool
-        ensures { result ≡ t.mode_valid (whole_entry self) }
+    // The entry of a mode's words.
+    #[tactic(auto, unfolding(crate::specs::View::entry_by, crate::specs::View::entry_in))]
+    fn unpack(words: ModeWords) -> ModeEntry
+        ensures { entry_by result ≡ entry_in words }
     {
-        let enter = self.enter;
-        let unmapped = self.unmapped;
-        let next = self.next;
-        if enter.valid() {
-            if unmapped.valid() {
-                return step::mode_valid(next);
-            }
+        ModeEntry {
+            enter: Actions {
+                items: number::actions_in(words.enter),
+                count: number::bits3(words.head),
+            },
+            unmapped: Actions {
+                items: number::actions_in(words.unmapped),
+                count: number::bits3(words.head / 8),
+            },
+            next: node::unopt(words.head / 64),
         }
-        false
     }
 
-    // An entry that is in range, in three words.
-    fn pack(self) -> EntryWords
-        requires { t.mode_valid (whole_entry self) ≡ true }
-        ensures { entry_of (result.enter ∷ result.unmapped ∷ result.head ∷ []) ≡ whole_entry self }
+    // The entry of a mode; empty lists and no next mode where the table does not reach.
+    pub fn of(tables: &TableWords, mode: u16) -> ModeEntry
+        ensures { entry_by result ≡ t.mode_entry (tables_of tables.now).modes mode }
     {
-        let enter = self.enter;
-        let unmapped = self.unmapped;
-        let next = self.next;
-        EntryWords {
-            enter: enter.pack(),
-            unmapped: unmapped.pack(),
-            head: (enter.count as u64) + 8 * (unmapped.count as u64) + 64 * node::opt(next),
+        match tables.mode(mode) {
+            Some(words) => ModeEntry::unpack(words),
+            None => ModeEntry::empty(),
+        }
+    }
+}
+
+impl Entry for ModeEntry {
+    type Words = ModeWords;
+
+    ghost in_range = { λ e. t.mode_valid (whole_entry e) };
+
+    ghost means = { λ w e. entry_in w ≡ whole_entry e };
+
+    #[tactic(auto, unfolding(rules::specs::Tables::mode_valid, crate::specs::View::whole_entry))]
+    fn valid(&self) -> bool {
+        self.enter.valid() && self.unmapped.valid() && step::mode_valid(self.next)
+    }
+
+    fn pack(&self) -> ModeWords {
+        ModeWords {
+            enter: self.enter.pack(),
+            unmapped: self.unmapped.pack(),
+            head: (self.enter.count as u64)
+                + 8 * (self.unmapped.count as u64)
+                + 64 * node::opt(self.next),
         }
     }
 }
@@ -178,132 +175,18 @@ impl Tables {
         }
     }
 
-    fn pack_classes(self) -> PackedClasses
-        requires { self.sizes.classes ≤ 16 }
-        ensures valid_value { result.valid ≡ every t.class_valid (map class_by (take self.sizes.classes self.classes)) }
-        ensures classes_value { result.valid ≡ true → classes_of result.words self.sizes.classes ≡ map class_by (take self.sizes.classes self.classes) }
-    {
-        let n = self.sizes.classes as usize;
-        let mut words = [0u64; TableWords::CLASSES as usize];
-        let mut i = 0usize;
-        while i < n {
-            let e = self.classes[i];
-            if e.valid() {
-                words[i] = class::class_word(e.class, e.low, e.high);
-                i = i + 1;
-            } else {
-                return PackedClasses {
-                    valid: false,
-                    words: words,
-                };
-            }
-        }
-        PackedClasses {
-            valid: true,
-            words: words,
-        }
-    }
-
-    fn pack_modes(self) -> PackedModes
-        requires { self.sizes.modes ≤ 16 }
-        ensures valid_value { result.valid ≡ every t.mode_valid (map whole_entry (take self.sizes.modes self.modes)) }
-        ensures words_value { result.valid ≡ true → modes_of self.sizes.modes result.words ≡ map whole_entry (take self.sizes.modes self.modes) }
-    {
-        let n = self.sizes.modes as usize;
-        let mut words = [0u64; TableWords::MODE_WORDS];
-        let mut i = 0usize;
-        while i < n {
-            let e = self.modes[i];
-            if e.valid() {
-                let w = e.pack();
-                words[i * 3] = w.enter;
-                words[i * 3 + 1] = w.unmapped;
-                words[i * 3 + 2] = w.head;
-                i = i + 1;
-            } else {
-                return PackedModes {
-                    valid: false,
-                    words: words,
-                };
-            }
-        }
-        PackedModes {
-            valid: true,
-            words: words,
-        }
-    }
-
-    fn pack_rules(self) -> PackedRules
-        requires { self.sizes.rules ≤ 64 }
-        ensures valid_value { result.valid ≡ every t.rule_valid (map rule_by (take self.sizes.rules self.rules)) }
-        ensures words_value { result.valid ≡ true → rules_of self.sizes.rules result.words ≡ map rule_by (take self.sizes.rules self.rules) }
-    {
-        let n = self.sizes.rules as usize;
-        let mut words = [0u64; TableWords::RULES as usize];
-        let mut i = 0usize;
-        while i < n {
-            let e = self.rules[i];
-            if e.valid() {
-                words[i] = e.pack();
-                i = i + 1;
-            } else {
-                return PackedRules {
-                    valid: false,
-                    words: words,
-                };
-            }
-        }
-        PackedRules {
-            valid: true,
-            words: words,
-        }
-    }
-
     // Are the tables in range? If so, the words are theirs.
-    pub fn pack(self) -> PackResult
-        ensures { packed_by result ≡ unless (t.tables_valid (whole_tables self)) 1 (accept (whole_tables self)) }
+    pub fn pack(&self) -> Result<TableWords, Refusal>
+        ensures { told tables_of result ≡ unless (t.tables_valid (whole_tables self.now)) 1 (accept (whole_tables self.now)) }
     {
-        let z = self.sizes;
-        if TableWords::CLASSES < z.classes {
-            return PackResult::refused();
-        }
-        let c = self.pack_classes();
-        if !c.valid {
-            return PackResult::refused();
-        }
-        if TableWords::MODES < z.modes {
-            return PackResult::refused();
-        }
-        let m = self.pack_modes();
-        if !m.valid {
-            return PackResult::refused();
-        }
-        if TableWords::RULES < z.rules {
-            return PackResult::refused();
-        }
-        let r = self.pack_rules();
-        if !r.valid {
-            return PackResult::refused();
-        }
-        let classes = c.words;
-        let modes = m.words;
-        let rules = r.words;
-        PackResult {
-            valid: true,
-            words: TableWords::new(z, classes, modes, rules),
-        }
-    }
-}
-
-impl PackResult {
-    // Out of range: no words.
-    fn refused() -> PackResult
-        ensures { result.valid ≡ false }
-    {
-        let words = TableWords::empty();
-        PackResult {
-            valid: false,
-            words: words,
-        }
+        let mut words = TableWords::EMPTY;
+        words.class_count = entry::pack_table(
+            &self.classes,
+            self.sizes.classes,
+            &mut words.classes,
+        )?;
+        words.mode_count = entry::pack_table(&self.modes, self.sizes.modes, &mut words.modes)?;
+        words.rule_count = entry::pack_table(&self.rules, self.sizes.rules, &mut words.rules)?;
+        Ok(words)
     }
 }

@@ -3,4 +3,3 @@ pub mod Words
 pub mod Lists
 pub mod Nodes
 pub mod Ranges
-pub mod Copies

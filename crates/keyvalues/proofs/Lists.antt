@@ -1,32 +1,31 @@
 -- Lists that a loop goes along, as they stand and seen through a view.
-use Prim.Native.Nat.{ℕ, zero, suc, ◌+◌, ◌<◌, ◌≤◌, min}
-use mathlib.Core.Path.{◌≡◌, refl, ap}
+use Prim.Native.Nat.{ℕ, zero, suc}
+use mathlib.Core.Path.{◌≡◌, refl, sym, ap}
 use mathlib.Core.List.{List, [], ◌∷◌, map}
-use native.Mathlib.Omega.{arith}
-use native.Mathlib.Numerals.{add-one}
-use lib.ListN.{length, take, drop, set, get_or, length-take, drop_of_length-le}
-use lib.Seq.{drop-cons, get_or-take}
+use lib.ListN.{set}
+use lib.Dec.{eqb}
+use borrow.Author.Tests.{eqb-true, eq-eqb}
+use Rattle.rules.proofs.Tests.{both_ways}
+use Rattle.std.specs.List.{list_all, list_any}
+use Rattle.rules.specs.Basics.{every, some_of}
+use mathlib.Core.Bool.{Bool, ◌&&◌}
 
 pub map_set : {A B : Type 0} (f : A → B) (l : List A) (i : ℕ) (a : A) → map f (set l i a) ≡ set (map f l) i (f a)
 map_set f [] i a = refl
 map_set f (x ∷ l) zero a = refl
 map_set f (x ∷ l) (suc i) a = ap (λ (r : List _). f x ∷ r) (map_set f l i a)
 
--- a loop over the front of a list goes from an element to the next
-module _ {A : Type 0} (m : ℕ) (ys : List A) (d : A) (i n : ℕ) (e : n ≡ min m (length ys)) where
-  pub list_cons : i < n → drop i (take m ys) ≡ get_or ys i d ∷ drop (i + 1) (take m ys)
-  list_cons h =
-      let l : i < length (take m ys) = omega (arith, length-take m ys) in
-      let k : i < m = omega arith in
-      rw (add-one, drop-cons (take m ys) i d l, get_or-take m ys i d k)
+-- ---- tests of a list, in the rules' words and in the library's
 
-  pub list_nil : n ≤ i → drop i (take m ys) ≡ []
-  list_nil h = let l : length (take m ys) ≤ i = omega (arith, length-take m ys) in rw (drop_of_length-le (take m ys) l)
+pub every_viewed : {A B : Type 0} (f : A → B) (p : B → Bool) (l : List A) → list_all (λ x. p (f x)) l ≡ every p (map f l)
+unfolding every
+every_viewed f p [] = refl
+every_viewed f p (x ∷ l) = ap (λ b. p (f x) && b) (every_viewed f p l)
 
--- and so does one over a view of it
-module _ {A B : Type 0} (f : A → B) (m : ℕ) (ys : List A) (d : A) (i n : ℕ) (e : n ≡ min m (length ys)) where
-  pub view_cons : i < n → map f (drop i (take m ys)) ≡ f (get_or ys i d) ∷ map f (drop (i + 1) (take m ys))
-  view_cons h = ap (map f) (list_cons m ys d i n e h)
+eqb_swap : (a b : ℕ) → eqb a b ≡ eqb b a
+eqb_swap a b = both_ways _ _ (λ h. eq-eqb b a (sym (eqb-true a b h))) (λ h. eq-eqb a b (sym (eqb-true b a h)))
 
-  pub view_nil : n ≤ i → map f (drop i (take m ys)) ≡ []
-  view_nil h = ap (map f) (list_nil m ys d i n e h)
+pub some_found : (a : ℕ) (l : List ℕ) → list_any (λ x. eqb x a) l ≡ some_of (eqb a) l
+unfolding some_of
+some_found a [] = refl
+some_found a (x ∷ l) = simp (eqb_swap x a, some_found a l)

@@ -1,32 +1,26 @@
 -- What a caller hands over, and the tests of its ranges.
 use Prim.Native.Nat.{ℕ, zero, suc, ◌<◌, ◌≤◌}
 use mathlib.Core.Path.{◌≡◌, refl, sym, ap, ◌∙◌}
-use mathlib.Core.Bool.{Bool, true, false, ◌&&◌}
+use mathlib.Core.Bool.{true, false, ◌&&◌}
 use mathlib.Core.List.{List, [], ◌∷◌, ◌++◌, map}
 use native.Mathlib.Omega.{arith}
 use lib.Dec.{leb}
 use lib.ListN.{length, take, replicate, length-take, length-append, length-replicate, length-map}
 use lib.Seq.{take-append-le}
-use borrow.Author.Tests.{le-leb, lt-leb, leb-true, lt-ltb, le-ltb}
-use mathlib.Core.Option.{Option, none, some}
-use Rattle.rules.specs.Values as v
-use Rattle.rules.specs.Graph.{Graph, add_mapping, add_prefix}
-use Rattle.rules.specs.Basics.{every, present, Result, refuse, unless}
+use borrow.Author.Tests.{le-leb, lt-leb, leb-true}
+use Rattle.rules.specs.Basics.{every, present}
 use Rattle.rules.proofs.Tests.{and_l}
-use Rattle.rules.specs.Values.{part_valid, path_valid, step_valid, is_mode, is_mark, map_valid, prefix_valid, Step}
+use Rattle.rules.specs.Values.{part_valid, path_valid, step_valid, is_mode, is_mark}
 use Rattle.keyvalues.specs.declared.path.EdgePathPart.{EdgePathPart as Part}
 use Rattle.keyvalues.specs.declared.event.EdgeRepeat.TheVariants.{Once}
 use Rattle.keyvalues.specs.declared.event.EdgeEvent.TheVariants.{Key}
 use Rattle.keyvalues.specs.declared.path.EdgePath.{EdgePath as Path}
 use Rattle.keyvalues.specs.declared.step.Step as st
-use Rattle.keyvalues.specs.View.{fit, no_part, part_of, path_of, step_of, whole_path, whole_step, maybe_of, chosen_of, steps_valid}
+use Rattle.keyvalues.specs.View.{fit, no_part, part_of, path_of, step_of, whole_path, whole_step, maybe_of}
 
 -- the length of an array of structs, from that of its view
 pub length-mapped : (X Y : Type 0) (f : X → Y) (l : List X) (n : ℕ) → length (map f l) ≡ n → length l ≡ n
 length-mapped X Y f l n p = sym (length-map l f) ∙ p
-
-pub view_count : {A B : Type 0} (f : A → B) (l : List A) (n : ℕ) → n ≤ length l → length (map f (take n l)) ≡ n
-view_count f l n h = omega (arith, length-map (take n l) f, length-take n l)
 
 pub take-map : {A B : Type 0} (f : A → B) (n : ℕ) (l : List A) → take n (map f l) ≡ map f (take n l)
 take-map f zero l = refl
@@ -95,51 +89,3 @@ module _ (s : st.Step) (e : length s.actions ≡ 4) where
   step_valid_lem h =
       let k = leb-true (length (fit 0 s.count s.actions)) 4 (and_l (leb (length (fit 0 s.count s.actions)) 4) (present is_mode (maybe_of s.next) && (present is_mode (maybe_of s.fallthrough) && present is_mark (maybe_of s.mark))) (sym h)) in
       step_same (omega (arith, fit_length 0 s.count s.actions))
-
--- ---- the two calls: r is what the work came to, and x the graph before
-module _ (mode : ℕ) (p : Path) (s : st.Step) (x : Graph) (r : Result Graph) (ep : length p.parts ≡ 32) (es : length s.actions ≡ 4) (hm : mode < 16) (hp : true ≡ path_valid (whole_path p)) where
-  pub map_good : true ≡ step_valid (whole_step s) → r ≡ add_mapping mode (path_of p) (step_of s) x → r ≡ unless (map_valid mode (whole_path p) (whole_step s)) 1 (add_mapping mode (whole_path p) (whole_step s) x)
-  unfolding map_valid
-  map_good hs k = rw (lt-ltb mode 16 hm, ← hp, ← hs, path_valid_lem p ep hp, step_valid_lem s es hs) k
-
-  pub prefix_good : (b : Bool) → true ≡ steps_valid (chosen_of b (whole_step s)) → r ≡ add_prefix mode (path_of p) (chosen_of b (step_of s)) x → r ≡ unless (prefix_valid mode (whole_path p) (chosen_of b (whole_step s))) 1 (add_prefix mode (whole_path p) (chosen_of b (whole_step s)) x)
-  unfolding prefix_valid map_valid chosen_of steps_valid
-  prefix_good true hs k = rw (lt-ltb mode 16 hm, ← hp, ← hs, path_valid_lem p ep hp, step_valid_lem s es hs) k
-  prefix_good false hs k = rw (lt-ltb mode 16 hm, ← hp, path_valid_lem p ep hp) k
-
-module _ (mode : ℕ) (ps : List v.Part) (s : Step) (r : Result Graph) where
-  pub map_bad_mode : 16 ≤ mode → refuse 1 ≡ unless (map_valid mode ps s) 1 r
-  unfolding map_valid
-  map_bad_mode h = rw (le-ltb mode 16 h)
-
-  pub map_bad_path : mode < 16 → false ≡ path_valid ps → refuse 1 ≡ unless (map_valid mode ps s) 1 r
-  unfolding map_valid
-  map_bad_path h k = rw (lt-ltb mode 16 h, ← k)
-
-  pub map_bad_step : mode < 16 → true ≡ path_valid ps → false ≡ step_valid s → refuse 1 ≡ unless (map_valid mode ps s) 1 r
-  unfolding map_valid
-  map_bad_step h k l = rw (lt-ltb mode 16 h, ← k, ← l)
-
-module _ (mode : ℕ) (ps : List v.Part) (os : Option Step) (r : Result Graph) where
-  -- one test for the two kinds of prefix
-  prefix_valid_lem : prefix_valid mode ps os ≡ (is_mode mode && (path_valid ps && steps_valid os))
-  unfolding prefix_valid map_valid steps_valid
-  prefix_valid_lem = go os
-    where
-      both : (a b : Bool) → (a && b) ≡ (a && (b && true))
-      both true true = refl
-      both true false = refl
-      both false b = refl
-
-      go : (os : Option Step) → prefix_valid mode ps os ≡ (is_mode mode && (path_valid ps && steps_valid os))
-      go none = both (is_mode mode) (path_valid ps)
-      go (some s) = refl
-
-  pub prefix_bad_mode : 16 ≤ mode → refuse 1 ≡ unless (prefix_valid mode ps os) 1 r
-  prefix_bad_mode h = rw (prefix_valid_lem, le-ltb mode 16 h)
-
-  pub prefix_bad_path : mode < 16 → false ≡ path_valid ps → refuse 1 ≡ unless (prefix_valid mode ps os) 1 r
-  prefix_bad_path h k = rw (prefix_valid_lem, lt-ltb mode 16 h, ← k)
-
-  pub prefix_bad_step : mode < 16 → true ≡ path_valid ps → false ≡ steps_valid os → refuse 1 ≡ unless (prefix_valid mode ps os) 1 r
-  prefix_bad_step h k l = rw (prefix_valid_lem, lt-ltb mode 16 h, ← k, ← l)

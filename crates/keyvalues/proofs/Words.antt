@@ -50,6 +50,8 @@ pub event_fall : event_at 131073 ≡ Fallthrough
 unfolding event_at
 event_fall = refl
 
+pub ruleset event_codes = (event_key, event_class, event_any, event_fall)
+
 pub same_code : (a b : ℕ) → same_event (event_at a) (event_at b) ≡ eqb a b
 same_code a b =
     both_ways _ _

@@ -3,14 +3,11 @@
 use Rattle.std.specs.Prelude
 use Rattle.std.specs.Prelude.{Some, None, Ok, Err, ℕ, zero, suc, ◌+◌, ◌-◌, ◌/◌, ◌%◌, Bool, true, false, List, [], ◌∷◌, ◌++◌, map, ltb, eqb, length, take, drop, replicate, get_or, if◌then◌else◌}
 use Rattle.std.proofs.Math.Option.{Option, none, some}
-use Rattle.std.proofs.Math.Seq.{paste}
 use Rattle.rules.specs.Basics.{Result, accept, refuse}
 use Rattle.rules.specs.Values as v
 use Rattle.rules.specs.Tables.{ClassEntry}
 use Rattle.rules.specs.Graph as g
 use Rattle.rules.specs.Calls as calls
-use Rattle.keyvalues.specs.declared.answer.Answer.{Answer}
-use Rattle.keyvalues.specs.declared.answer.Answer.TheVariants.{Accepted, Refused}
 use Rattle.keyvalues.specs.declared.refusal.Refusal.{Refusal}
 use Rattle.keyvalues.specs.declared.refusal.Refusal.TheVariants.{OutOfRange, NodesFull, EdgesFull, OtherMode, QueueFull, SequenceFull, TrailFull, NoBudget, Malformed, OutputFull, CallsFull}
 use Rattle.keyvalues.specs.declared.event.EdgeEvent.{EdgeEvent}
@@ -24,7 +21,8 @@ use Rattle.keyvalues.specs.declared.node.NodeAction.{NodeAction}
 use Rattle.keyvalues.specs.declared.node.NodeAction.TheVariants.{Empty, Root, Step as Holds}
 use Rattle.keyvalues.specs.declared.node.Node.{Node}
 use Rattle.keyvalues.specs.declared.node.NodeWords.{NodeWords}
-use Rattle.keyvalues.specs.declared.tables.Sizes.{Sizes}
+use Rattle.keyvalues.specs.declared.tables.ModeWords.{ModeWords}
+use Rattle.keyvalues.specs.declared.tables.TableWords.{TableWords}
 
 -- ---- the declared types
 
@@ -60,13 +58,13 @@ step_of s = record {
   mark = maybe_of s.mark;
 }
 
-unfoldable pub action_of : NodeAction → v.Step → g.NodeAction
-action_of Empty s = g.Empty
-action_of Root s = g.Root
-action_of Holds s = g.Holds s
+unfoldable pub action_of : NodeAction → g.NodeAction
+action_of Empty = g.Empty
+action_of Root = g.Root
+action_of (Holds s) = g.Holds (step_of s)
 
 unfoldable pub node_of : Node → g.Node
-node_of n = record { mode = n.mode; action = action_of n.action (step_of n.step) }
+node_of n = record { mode = n.mode; action = action_of n.action }
 
 -- ---- answers
 
@@ -89,24 +87,10 @@ abbrev pub told : {A B : Type 0} → (A → B) → Prelude.Result A Refusal → 
 told f (Ok a) = accept (f a)
 told f (Err r) = refuse (number_of r)
 
-abbrev pub answer_of : Answer → calls.Answer
-answer_of Accepted = calls.Accepted
-answer_of (Refused n) = calls.Refused n
-
--- a value with the number of a refusal, or 0
-unfoldable pub outcome : {A : Type 0} → ℕ → A → Result A
-outcome zero a = accept a
-outcome (suc n) a = refuse (suc n)
-
 -- what a call leaves and answers: refused, what was there before
 unfoldable pub settled : {A : Type 0} → A → Result A → A × calls.Answer
 settled old (accept new) = (new, calls.Accepted)
 settled old (refuse n) = (old, calls.Refused n)
-
--- a value with an answer: a refusal carries no value
-abbrev pub result_by : {A : Type 0} → Answer → A → Result A
-result_by Accepted a = accept a
-result_by (Refused n) a = refuse n
 
 -- ---- what a caller hands over
 
@@ -130,20 +114,20 @@ whole_step s = record {
   mark = maybe_of s.mark;
 }
 
--- a step that is there or not
-unfoldable pub chosen_of : Bool → v.Step → Option v.Step
-chosen_of true s = some s
-chosen_of false s = none
+-- a step that may be missing, with the actions that are there, and as it is handed over
+abbrev pub steps_of : Prelude.Option Step → Option v.Step
+steps_of None = none
+steps_of (Some s) = some (step_of s)
+
+abbrev pub whole_steps : Prelude.Option Step → Option v.Step
+whole_steps None = none
+whole_steps (Some s) = some (whole_step s)
 
 -- the call of a kind, which is 0 for a mapping, 1 for a prefix and 2 for a prefix with the step
 unfoldable pub call_of : ℕ → ℕ → List v.Part → v.Step → v.Binding
 call_of zero mode path st = v.Maps mode path st
 call_of (suc zero) mode path st = v.Prefixes mode path none
 call_of (suc (suc k)) mode path st = v.Prefixes mode path (some st)
-
-unfoldable pub steps_valid : Option v.Step → Bool
-steps_valid none = true
-steps_valid (some s) = v.step_valid s
 
 -- ---- words
 
@@ -196,39 +180,19 @@ class_at w = record { class = w % 65536; low = w / 65536 % 65536; high = w / 655
 
 -- ---- tables of words: the first n
 
-unfoldable pub zip_with : {A B C : Type 0} → (A → B → C) → List A → List B → List C
-zip_with f [] ys = []
-zip_with f (x ∷ xs) [] = []
-zip_with f (x ∷ xs) (y ∷ ys) = f x y ∷ zip_with f xs ys
-
-abbrev pub nodes_of : List ℕ → List ℕ → ℕ → List g.Node
-nodes_of hs ws n = zip_with node_at (take n hs) (take n ws)
-
 abbrev pub classes_of : List ℕ → ℕ → List ClassEntry
 classes_of ws n = map class_at (take n ws)
 
 abbrev pub graph_by : List g.Node → List g.Edge → g.Graph
 graph_by ns es = record { nodes = ns; edges = es }
 
--- ---- the tables' words: how many classes, modes and rules count; the classes', the modes', the rules'
+-- ---- the tables' words: the entries that count
 
-unfoldable pub sizes_in : List ℕ → Sizes
-sizes_in ws = record { classes = get_or ws 0 0 % 65536; modes = get_or ws 1 0 % 65536; rules = get_or ws 2 0 % 65536 }
+abbrev pub class_table : TableWords → List ClassEntry
+class_table t = classes_of t.classes t.class_count
 
-unfoldable pub class_words : List ℕ → List ℕ
-class_words ws = take 16 (drop 3 ws)
+abbrev pub mode_table : TableWords → List ModeWords
+mode_table t = take t.mode_count t.modes
 
-unfoldable pub mode_words : List ℕ → List ℕ
-mode_words ws = take 48 (drop 19 ws)
-
-unfoldable pub rule_words : List ℕ → List ℕ
-rule_words ws = take 64 (drop 67 ws)
-
-abbrev pub classes_in : List ℕ → List ClassEntry
-classes_in ws = classes_of (class_words ws) (sizes_in ws).classes
-
--- ---- words that are copied
-
--- n words of src from one place on, in dst from another on; where they do not fit, dst
-unfoldable pub copied : List ℕ → ℕ → List ℕ → ℕ → ℕ → List ℕ
-copied dst to src from n = if ltb (length dst) (to + n) then dst else (if ltb (length src) (from + n) then dst else paste dst to (drop from src) n)
+abbrev pub rule_table : TableWords → List ℕ
+rule_table t = take t.rule_count t.rules

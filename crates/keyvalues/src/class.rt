@@ -6,6 +6,7 @@ ghost use Rattle.keyvalues.specs.View.{class_at};
 use crate::number;
 
 // The word of an entry: the keys from `first` to `last`, both included.
+#[tactic(auto, using(crate::proofs::Words::class_entry))]
 pub fn class_word(class: u16, first: u16, last: u16) -> u64
     ensures { class_at result ≡ record { class = class; low = first; high = last } }
 {
@@ -13,10 +14,11 @@ pub fn class_word(class: u16, first: u16, last: u16) -> u64
 }
 
 // Does the entry's range hold the key?
+#[tactic(auto, unfolding(rules::specs::Tables::holds_key, crate::specs::View::class_at))]
 pub fn holds_key(entry: u64, key: u16) -> bool
     ensures { result ≡ holds_key (class_at entry) key }
 {
     let first = number::low(entry / 65536);
     let last = number::low(entry / 65536 / 65536);
-    if first <= key { key <= last } else { false }
+    first <= key && key <= last
 }

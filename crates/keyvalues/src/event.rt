@@ -3,7 +3,7 @@ ghost use Rattle.std.specs.Prelude.{◌≡◌};
 ghost use Rattle.rules.specs.Values as v;
 ghost use Rattle.keyvalues.specs.View.{event_of, event_at, repeat_of};
 
-#[derive(Clone, Copy)]
+#[derive(Clone, Copy, Debug, PartialEq, Eq)]
 pub enum EdgeEvent {
     Key(u16),
     Class(u16),
@@ -11,7 +11,7 @@ pub enum EdgeEvent {
     Fallthrough,
 }
 
-#[derive(Clone, Copy)]
+#[derive(Clone, Copy, Debug, PartialEq, Eq)]
 pub enum EdgeRepeat {
     Once,
     Min(u16),
@@ -26,6 +26,7 @@ pub const FALLTHROUGH: u32 = 131073;
 impl EdgeEvent {
     pub const CLASSES: u16 = 256;
 
+    #[tactic(auto, using(crate::proofs::Words::event_codes))]
     pub fn code(self) -> u32
         ensures { event_at result ≡ event_of self }
     {
@@ -37,6 +38,7 @@ impl EdgeEvent {
         }
     }
 
+    #[tactic(auto, unfolding(rules::specs::Values::event_valid))]
     pub fn valid(self) -> bool
         ensures { result ≡ v.event_valid (event_of self) }
     {
@@ -52,6 +54,7 @@ impl EdgeEvent {
 impl EdgeRepeat {
     pub const MOST: u16 = 255;
 
+    #[tactic(auto, unfolding(rules::specs::Values::repeat_valid))]
     pub fn valid(self) -> bool
         ensures { result ≡ v.repeat_valid (repeat_of self) }
     {

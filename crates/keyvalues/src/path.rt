@@ -1,66 +1,59 @@
 // A path: up to 32 parts, each an event with its repeat.
 ghost use Rattle.std.specs.Prelude.{◌≡◌, ◌≤◌, length, take};
-ghost use Rattle.rules.specs.Basics.{every};
+ghost use Rattle.std.specs.List.{list_all};
 ghost use Rattle.rules.specs.Values as v;
-ghost use Rattle.keyvalues.specs.View.{part_of, path_of, whole_path};
+ghost use Rattle.keyvalues.specs.View.{part_of, whole_path};
 
 use crate::event::{EdgeEvent, EdgeRepeat};
-use crate::number;
+use crate::list;
 
-#[derive(Clone, Copy)]
+#[derive(Clone, Copy, Debug, PartialEq, Eq)]
 pub struct EdgePathPart {
     pub repeat: EdgeRepeat,
     pub event: EdgeEvent,
 }
 
 // The first `count` parts are the path. A count over 32 is a path that every call refuses.
-#[derive(Clone, Copy)]
+#[derive(Clone, Copy, Debug, PartialEq, Eq)]
 pub struct EdgePath {
     pub parts: [EdgePathPart; EdgePath::PARTS as usize],
     pub count: u16,
 }
 
 impl EdgePathPart {
+    #[tactic(auto, unfolding(rules::specs::Values::part_valid, crate::specs::View::part_of))]
     pub fn valid(self) -> bool
         ensures { result ≡ v.part_valid (part_of self) }
     {
-        let repeat = self.repeat;
-        let event = self.event;
-        if repeat.valid() { event.valid() } else { false }
+        self.repeat.valid() && self.event.valid()
     }
 }
 
 impl EdgePath {
     pub const PARTS: u16 = 32;
 
-    pub fn size(self) -> usize
-        ensures { (result ≡ length (take self.count self.parts)) × (result ≤ 32) }
+    // The parts that are there.
+    pub fn parts(&self) -> &[EdgePathPart]
+        ensures { (result.now ≡ take self.now.count self.now.parts) × (length result.now ≤ 32) }
     {
-        number::least(self.count, EdgePath::PARTS as usize)
+        list::front(&self.parts, self.count)
     }
 
-    fn parts_valid(self) -> bool
-        ensures { result ≡ every v.part_valid (path_of self) }
+    pub fn size(&self) -> usize
+        ensures { (result ≡ length (take self.now.count self.now.parts)) × (result ≤ 32) }
     {
-        let n = self.size();
-        let mut i = 0usize;
-        while i < n {
-            let p = self.parts[i];
-            if p.valid() {
-                i = i + 1;
-            } else {
-                return false;
-            }
-        }
-        true
+        self.parts().len()
     }
 
-    pub fn valid(self) -> bool
-        ensures { result ≡ v.path_valid (whole_path self) }
+    fn parts_valid(&self) -> bool
+        ensures { result ≡ list_all (λ part. v.part_valid (part_of part)) (take self.now.count self.now.parts) }
     {
-        if EdgePath::PARTS < self.count {
-            return false;
-        }
-        self.parts_valid()
+        self.parts().iter().all(|part| part.valid())
+    }
+
+    pub fn valid(&self) -> bool
+        ensures { result ≡ v.path_valid (whole_path self.now) }
+    {
+        self.count <= EdgePath::PARTS && self.parts_valid()
     }
 }

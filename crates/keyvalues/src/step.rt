@@ -4,11 +4,11 @@ ghost use Rattle.rules.specs.Basics.{present, some_of};
 ghost use Rattle.rules.specs.Values as v;
 ghost use Rattle.keyvalues.specs.View.{maybe_of, step_of, whole_step};
 
-use crate::number;
+use crate::list;
 use crate::tables::TableWords;
 
 // The first `count` actions are the step's. A count over 4 is a step that every call refuses.
-#[derive(Clone, Copy)]
+#[derive(Clone, Copy, Debug, PartialEq, Eq)]
 pub struct Step {
     pub unmapped: bool,
     pub actions: [u16; Step::ACTIONS as usize],
@@ -19,28 +19,25 @@ pub struct Step {
 }
 
 // A mode that may be missing is in range.
+#[tactic(auto, unfolding(rules::specs::Basics::present))]
 pub fn mode_valid(m: Option<u16>) -> bool
     ensures { result ≡ present v.is_mode (maybe_of m) }
 {
-    match m {
-        None => true,
-        Some(n) => n < TableWords::MODES,
-    }
+    m.is_none_or(|n| n < TableWords::MODES)
 }
 
+#[tactic(auto, unfolding(rules::specs::Basics::present))]
 fn mark_valid(m: Option<u16>) -> bool
     ensures { result ≡ present v.is_mark (maybe_of m) }
 {
-    match m {
-        None => true,
-        Some(n) => 1 <= n,
-    }
+    m.is_none_or(|n| 1 <= n)
 }
 
 impl Step {
     pub const ACTIONS: u16 = 4;
 
     // The default step: no action, no mode, no mark.
+    #[tactic(auto, unfolding(rules::specs::Values::default_step, crate::specs::View::step_of))]
     pub fn default() -> Step
         ensures { step_of result ≡ v.default_step }
     {
@@ -54,35 +51,17 @@ impl Step {
         }
     }
 
-    pub fn valid(self) -> bool
-        ensures { result ≡ v.step_valid (whole_step self) }
+    pub fn valid(&self) -> bool
+        ensures { result ≡ v.step_valid (whole_step self.now) }
     {
-        if Step::ACTIONS < self.count {
-            return false;
-        }
-        let next = self.next;
-        let fall = self.fallthrough;
-        let mark = self.mark;
-        if mode_valid(next) {
-            if mode_valid(fall) {
-                return mark_valid(mark);
-            }
-        }
-        false
+        self.count <= Step::ACTIONS
+            && (mode_valid(self.next) && (mode_valid(self.fallthrough) && mark_valid(self.mark)))
     }
 
     // Is the action among the step's?
-    pub fn has(self, action: u16) -> bool
-        ensures { result ≡ some_of (eqb action) (step_of self).actions }
+    pub fn has(&self, action: u16) -> bool
+        ensures { result ≡ some_of (eqb action) (step_of self.now).actions }
     {
-        let n = number::least(self.count, Step::ACTIONS as usize);
-        let mut i = 0usize;
-        while i < n {
-            if self.actions[i] == action {
-                return true;
-            }
-            i = i + 1;
-        }
-        false
+        list::front(&self.actions, self.count).contains(&action)
     }
 }

@@ -1,22 +1,36 @@
-// The words of the three tables, in one array, so that whoever hands the tables on lends one thing. In front stand how many
-// classes, modes and rules count, then a word for each class, three for each mode and one for each rule.
-ghost use Rattle.std.specs.Prelude.{◌≡◌, replicate};
-ghost use Rattle.keyvalues.specs.View.{sizes_in, class_words, mode_words, rule_words};
+// The words of the three tables, so that whoever hands the tables on lends one thing.
+ghost use Rattle.std.specs.Prelude.{◌≡◌, ◌≤◌, map, MatchOption, length, get_or, ◌<◌};
+ghost use Rattle.keyvalues.specs.View.{class_at, class_table, mode_table, rule_table};
 
-use crate::copy;
+use crate::list;
 
-// How many words of the class table, how many entries of the mode table and how many rules count.
-#[derive(Clone, Copy)]
+// How many classes, modes and rules count.
+#[derive(Clone, Copy, Debug, PartialEq, Eq)]
 pub struct Sizes {
     pub classes: u16,
     pub modes: u16,
     pub rules: u16,
 }
 
+// The words of a mode: its enter list, its unmapped list, and a head with their counts and the next mode.
+#[repr(C)]
+#[derive(Clone, Copy, Debug, PartialEq, Eq)]
+pub struct ModeWords {
+    pub enter: u64,
+    pub unmapped: u64,
+    pub head: u64,
+}
+
+// In front of each table stands how many of its entries count.
 #[repr(C)]
 #[derive(Clone, Copy)]
 pub struct TableWords {
-    pub words: [u64; TableWords::WORDS],
+    pub class_count: u16,
+    pub classes: [u64; TableWords::CLASSES as usize],
+    pub mode_count: u16,
+    pub modes: [ModeWords; TableWords::MODES as usize],
+    pub rule_count: u16,
+    pub rules: [u64; TableWords::RULES as usize],
 }
 
 impl TableWords {
@@ -27,68 +41,48 @@ impl TableWords {
 
     pub const RULES: u16 = 64;
 
-    // A mode has three words.
-    pub const MODE_WORDS: usize = 3 * TableWords::MODES as usize;
-
-    // Where their counts stand: of the classes, of the modes and of the rules.
-    pub const CLASS_COUNT_AT: usize = 0;
-
-    pub const MODE_COUNT_AT: usize = 1;
-
-    pub const RULE_COUNT_AT: usize = 2;
-
-    // Where the classes, the modes and the rules begin, and where the rules end.
-    pub const CLASSES_AT: usize = 3;
-
-    pub const MODES_AT: usize = TableWords::CLASSES_AT + TableWords::CLASSES as usize;
-
-    pub const RULES_AT: usize = TableWords::MODES_AT + TableWords::MODE_WORDS;
-
-    pub const WORDS: usize = TableWords::RULES_AT + TableWords::RULES as usize;
-
     // No entry at all.
-    pub fn empty() -> TableWords
-        ensures { result.words ≡ replicate 131 0 }
+    pub const EMPTY: TableWords = TableWords {
+        class_count: 0,
+        classes: [0u64; TableWords::CLASSES as usize],
+        mode_count: 0,
+        modes: [ModeWords::EMPTY; TableWords::MODES as usize],
+        rule_count: 0,
+        rules: [0u64; TableWords::RULES as usize],
+    };
+
+    // The words of the classes that count.
+    pub fn classes(&self) -> &[u64]
+        ensures { map class_at result.now ≡ class_table self.now }
     {
-        TableWords {
-            words: [0u64; TableWords::WORDS],
-        }
+        list::front(&self.classes, self.class_count)
     }
 
-    // The words of the three tables in their places.
-    pub fn new(
-        sizes: Sizes,
-        classes: [u64; TableWords::CLASSES as usize],
-        modes: [u64; TableWords::MODE_WORDS],
-        rules: [u64; TableWords::RULES as usize],
-    ) -> TableWords
-        ensures { (sizes_in result.words ≡ sizes) × (class_words result.words ≡ classes) × (mode_words result.words ≡ modes) × (rule_words result.words ≡ rules) }
+    pub fn modes(&self) -> &[ModeWords]
+        ensures { result.now ≡ mode_table self.now }
     {
-        let mut words = [0u64; TableWords::WORDS];
-        words[TableWords::CLASS_COUNT_AT] = sizes.classes as u64;
-        words[TableWords::MODE_COUNT_AT] = sizes.modes as u64;
-        words[TableWords::RULE_COUNT_AT] = sizes.rules as u64;
-        copy::copy(
-            &mut words,
-            TableWords::CLASSES_AT,
-            &classes,
-            0,
-            TableWords::CLASSES as usize,
-        );
-        copy::copy(
-            &mut words,
-            TableWords::MODES_AT,
-            &modes,
-            0,
-            TableWords::MODE_WORDS,
-        );
-        copy::copy(
-            &mut words,
-            TableWords::RULES_AT,
-            &rules,
-            0,
-            TableWords::RULES as usize,
-        );
-        TableWords { words: words }
+        list::front(&self.modes, self.mode_count)
     }
+
+    pub fn rules(&self) -> &[u64]
+        ensures { result.now ≡ rule_table self.now }
+    {
+        list::front(&self.rules, self.rule_count)
+    }
+
+    // The words of a mode, if it is one of those that count.
+    pub fn mode(&self, mode: u16) -> Option<ModeWords>
+        ensures { MatchOption result (length (mode_table self.now) ≤ mode) (λ w. (mode < length (mode_table self.now)) × ((d : _) → get_or (mode_table self.now) mode d ≡ w)) }
+    {
+        self.modes().get(mode as usize).copied()
+    }
+}
+
+impl ModeWords {
+    // Empty lists and no next mode.
+    pub const EMPTY: ModeWords = ModeWords {
+        enter: 0,
+        unmapped: 0,
+        head: 0,
+    };
 }

@@ -1,7 +1,6 @@
--- Laws that belong to no one function: what is read and then added is the rules' reading of the whole file; bytes are laid over
--- others; keys are played one after another; and a written number is read back.
+-- Laws that belong to no one function: what is read and then added is the rules' reading of the whole file; pairs are written one
+-- behind another; keys are played one after another; and a written number is read back.
 pub mod Round
-pub mod Writing
 pub mod Bindings
 pub mod PairBytes
 pub mod Playing

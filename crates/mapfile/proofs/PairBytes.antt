@@ -1,118 +1,103 @@
--- Pairs as bytes: one behind another, and how many bytes they take.
-use Prim.Native.Nat.{ℕ, zero, suc, ◌+◌, ◌≤◌, ◌<◌, min}
+-- Pairs as numbers and as bytes: one behind another, and whether they fit.
+use Prim.Native.Nat.{ℕ, ◌+◌, ◌≤◌, ◌<◌}
 use native.Mathlib.Omega.{arith}
 use native.Mathlib.Numerals.{add-one}
-use native.Mathlib.Nat.{min-eq_left, min-eq_right, add-zero}
+use native.Mathlib.Nat.{add-zero}
 use mathlib.Core.Path.{◌≡◌, refl, sym, ap, ◌∙◌}
 use mathlib.Core.Logic.{◌⊎◌, inl, inr}
-use mathlib.Core.List.{List, [], ◌∷◌, ◌++◌, map, map-append, append_assoc, append-nil}
-use lib.ListN.{length, take, get_or, length-append, take-append-drop}
+use mathlib.Core.List.{List, [], ◌∷◌, ◌++◌, map, map-append, append_assoc, append-nil, flat_map}
+use lib.ListN.{length, take, drop, get_or, take-append-drop}
 use lib.Seq.{take-suc, take_all}
+use Rattle.rules.specs.Basics.{Result, accept, refuse}
 use Rattle.rules.specs.Values.{Pair}
 use Rattle.rules.specs.Numbers.{bytes_of}
 use Rattle.rules.specs.Run.{pair_bytes}
+use Rattle.rules.specs.Writing.{in_bytes}
 use Rattle.rules.proofs.Numbers.{side}
-use Rattle.keypairs.specs.View.{pair_of, pairs_of}
-use Rattle.mapfile.specs.View.{laid, bytes_of_pair}
-use Rattle.mapfile.proofs.Writing.{laid_laid}
+use Rattle.keypairs.specs.View.{pair_of}
+use Rattle.mapparts.specs.View.{laid, Page, placed, put_all}
+use Rattle.mapparts.proofs.Writing.{fits, too_long, put_placed}
+use Rattle.mapfile.specs.View.{bytes_of_pair, pair_numbers}
 
 pub pairs_append : (ps qs : List Pair) → pair_bytes (ps ++ qs) ≡ pair_bytes ps ++ pair_bytes qs
 unfolding pair_bytes
 pairs_append [] qs = refl
 pairs_append (p ∷ ps) qs = ap (λ bs. bytes_of_pair p ++ bs) (pairs_append ps qs) ∙ sym (append_assoc (bytes_of_pair p) (pair_bytes ps) (pair_bytes qs))
 
--- ---- the words of a queue
+-- ---- as numbers
 
-pub pairs_next : (q : List ℕ) (i : ℕ) → i < length q → pair_bytes (pairs_of (i + 1) q) ≡ pair_bytes (pairs_of i q) ++ bytes_of_pair (pair_of (get_or q i 0))
+pub numbers_of : (p q : Pair) → p ≡ q → p.action ∷ p.context.count ∷ p.context.mark ∷ [] ≡ pair_numbers (q ∷ [])
+numbers_of p q e = ap (λ p. pair_numbers (p ∷ [])) e
+
+pub numbers_append : (ps qs : List Pair) → pair_numbers (ps ++ qs) ≡ pair_numbers ps ++ pair_numbers qs
+numbers_append [] qs = refl
+numbers_append (p ∷ ps) qs = ap (λ ns. p.action ∷ p.context.count ∷ p.context.mark ∷ ns) (numbers_append ps qs)
+
+-- one more word of a queue, and those behind it
+module _ (ws : List ℕ) where
+  pub numbers_next : (i : ℕ) → i < length ws → pair_numbers (map pair_of (take i ws)) ++ pair_numbers (pair_of (get_or ws i 0) ∷ []) ≡ pair_numbers (map pair_of (take (i + 1) ws))
+  numbers_next i h =
+      sym (ap (λ k. pair_numbers (map pair_of (take k ws))) (add-one i) ∙ ap (λ l. pair_numbers (map pair_of l)) (take-suc ws i 0 h) ∙ ap pair_numbers (map-append pair_of (take i ws) (get_or ws i 0 ∷ [])) ∙ numbers_append (map pair_of (take i ws)) (pair_of (get_or ws i 0) ∷ []))
+
+  pub numbers_rest : (i : ℕ) → pair_numbers (map pair_of (take i ws)) ++ pair_numbers (map pair_of (drop i ws)) ≡ pair_numbers (map pair_of ws)
+  numbers_rest i =
+      sym (numbers_append (map pair_of (take i ws)) (map pair_of (drop i ws))) ∙ ap pair_numbers (sym (map-append pair_of (take i ws) (drop i ws)) ∙ ap (map pair_of) (take-append-drop i ws))
+
+  pub numbers_all : (i : ℕ) → length ws ≤ i → pair_numbers (map pair_of (take i ws)) ≡ pair_numbers (map pair_of ws)
+  numbers_all i h = ap (λ l. pair_numbers (map pair_of l)) (take_all i ws h)
+
+numbers_bytes : (ps : List Pair) → in_bytes (pair_numbers ps) ≡ pair_bytes ps
+unfolding in_bytes flat_map pair_bytes
+numbers_bytes [] = refl
+numbers_bytes (p ∷ ps) =
+    let a = bytes_of p.action in
+    let b = bytes_of p.context.count in
+    let d = bytes_of p.context.mark in
+    ap (λ bs. a ++ (b ++ (d ++ bs))) (numbers_bytes ps) ∙ sym (append_assoc (a ++ b) d (pair_bytes ps) ∙ append_assoc a b (d ++ pair_bytes ps))
+
+-- ---- written
+
+laid_none : (at : ℕ) (out : List ℕ) → laid at [] out ≡ out
+unfolding laid
+laid_none at out = rw (add-zero at, append-nil (take at out)) (take-append-drop at out)
+
+-- from a place of the output on, pairs are put at once
+pub pairs_placed : (ps : List Pair) (at : ℕ) (out : List ℕ) → at ≤ length out → put_all (pair_numbers ps) (at, out) ≡ placed (pair_bytes ps) (at, out)
 unfolding pair_bytes
-pairs_next q i h =
-    ap (λ l. pair_bytes (map pair_of l)) (ap (λ k. take k q) (add-one i) ∙ take-suc q i 0 h)
-    ∙ ap pair_bytes (map-append pair_of (take i q) (get_or q i 0 ∷ []))
-    ∙ pairs_append (pairs_of i q) (pair_of (get_or q i 0) ∷ [])
-    ∙ ap (λ bs. pair_bytes (pairs_of i q) ++ bs) (append-nil (bytes_of_pair (pair_of (get_or q i 0))))
+pairs_placed [] at out h =
+    let k : at + 0 ≤ length out = omega arith in
+    ap (λ (p : Page). accept p) (ap (λ (o : List ℕ). (at, o)) (sym (laid_none at out)) ∙ ap (λ (n : ℕ). (n, laid at [] out)) (sym (add-zero at))) ∙ fits [] at out k
+pairs_placed (p ∷ ps) at out h = put_placed _ _ at out ∙ ap (λ bs. placed bs (at, out)) (numbers_bytes (p ∷ ps))
 
-pub pairs_within : (q : List ℕ) (i n : ℕ) → i ≤ n → length (pair_bytes (pairs_of i q)) ≤ length (pair_bytes (pairs_of n q))
-unfolding pair_bytes
-pairs_within q zero n h = omega arith
-pairs_within q (suc i) zero h = absurd (omega arith)
-pairs_within [] (suc i) (suc n) h = omega arith
-pairs_within (w ∷ q) (suc i) (suc n) h =
-    let r : length (pair_bytes (pairs_of i q)) ≤ length (pair_bytes (pairs_of n q)) = pairs_within q i n (omega arith) in
-    omega (arith, length-append (bytes_of_pair (pair_of w)) (pair_bytes (pairs_of i q)), length-append (bytes_of_pair (pair_of w)) (pair_bytes (pairs_of n q)))
+-- the page of a result that has one, and the number of one that has none
+abbrev got : Result Page → Page
+got (accept p) = p
+got (refuse n) = (0, [])
 
--- a count past the end is the whole queue
-pub all_pairs : (q : List ℕ) (n : ℕ) → pairs_of (min n (length q)) q ≡ pairs_of n q
-all_pairs q n = go (side n (length q))
-  where
-    go : (n < length q) ⊎ (length q ≤ n) → pairs_of (min n (length q)) q ≡ pairs_of n q
-    go (inl h) = (let l : n ≤ length q = omega arith in ap (λ k. pairs_of k q) (min-eq_left l))
-    go (inr h) = ap (λ k. pairs_of k q) (min-eq_right h) ∙ ap (map pair_of) (take_all (length q) q (omega arith) ∙ sym (take_all n q h))
+abbrev refusal_of : Result Page → ℕ
+refusal_of (accept p) = 0
+refusal_of (refuse n) = n
 
--- ---- three numbers in a row
+abbrev is_refused : Result Page → ℕ
+is_refused (accept p) = 0
+is_refused (refuse n) = 1
 
-pub pair_long : (p : Pair) (a b c : ℕ) → a ≡ length (bytes_of p.action) → b ≡ length (bytes_of p.context.count) → c ≡ length (bytes_of p.context.mark) → a + b + c ≡ length (bytes_of_pair p)
-pair_long p a b c ha hb hc = simp length-append (omega arith)
+module _ (bs : List ℕ) (at : ℕ) (out : List ℕ) where
+  pub record Fitted (p : Page) : Type 0 where
+    pub room : at + length bs ≤ length out
+    pub place : p.0 ≡ at + length bs
+    pub bytes : p.1 ≡ laid at bs out
 
-module _ (p : Pair) (at : ℕ) (out : List ℕ) (b c : ℕ) (hb : b ≡ at + length (bytes_of p.action)) (hc : c ≡ b + length (bytes_of p.context.count)) (fits : at + length (bytes_of_pair p) ≤ length out) where
-  abbrev xs : List ℕ
-  xs = bytes_of p.action
+  pub fitted : (p : Page) → accept p ≡ placed bs (at, out) → Fitted p
+  fitted p e = go (side (length out) (at + length bs))
+    where
+      go : (length out < at + length bs) ⊎ (at + length bs ≤ length out) → Fitted p
+      go (inl h) = let z : ◌≡◌ {A = ℕ} 0 1 = ap is_refused (e ∙ sym (too_long bs at out h)) in absurd (omega arith)
+      go (inr h) = let f : ◌≡◌ {A = Result Page} (accept p) (accept (at + length bs, laid at bs out)) = e ∙ sym (fits bs at out h) in record { room = h; place = ap (λ r. (got r).0) f; bytes = ap (λ r. (got r).1) f }
 
-  abbrev ys : List ℕ
-  ys = bytes_of p.context.count
-
-  abbrev zs : List ℕ
-  zs = bytes_of p.context.mark
-
-  long : length (xs ++ ys ++ zs) ≡ length xs + length ys + length zs
-  long = simp length-append
-
-  two_long : length (xs ++ ys) ≡ length xs + length ys
-  two_long = simp length-append
-
-  pub first_fits : at + length xs ≤ length out
-  first_fits = omega (arith, long)
-
-  pub second_fits : b + length ys ≤ length out
-  second_fits = omega (arith, long)
-
-  pub third_fits : c + length zs ≤ length out
-  third_fits = omega (arith, long)
-
-  pub pair_end : c + length zs ≡ at + length (bytes_of_pair p)
-  pair_end = omega (arith, long)
-
-  pub pair_laid : (o₁ o₂ o₃ : List ℕ) → o₁ ≡ laid at xs out → o₂ ≡ laid b ys o₁ → o₃ ≡ laid c zs o₂ → o₃ ≡ laid at (bytes_of_pair p) out
-  pair_laid o₁ o₂ o₃ e₁ e₂ e₃ =
-      let k : c ≡ at + length (xs ++ ys) = omega (arith, two_long) in
-      let two : o₂ ≡ laid at (xs ++ ys) out = e₂ ∙ ap (λ n. laid n ys o₁) hb ∙ ap (laid (at + length xs) ys) e₁ ∙ laid_laid at xs ys out (omega (arith, long)) in
-      e₃ ∙ ap (λ n. laid n zs o₂) k ∙ ap (laid (at + length (xs ++ ys)) zs) two ∙ laid_laid at (xs ++ ys) zs out (omega (arith, long, two_long))
-
--- no pair takes a byte
-pub none_at : (from : ℕ) (q : List ℕ) → from ≡ from + length (pair_bytes (pairs_of 0 q))
-unfolding pair_bytes
-none_at from q = sym (add-zero from)
-
-pub none_laid : (from : ℕ) (q out : List ℕ) → out ≡ laid from (pair_bytes (pairs_of 0 q)) out
-unfolding pair_bytes laid
-none_laid from q out = rw (add-zero from, append-nil (take from out)) (sym (take-append-drop from out))
-
--- a pair more behind those that are laid
-module _ (from : ℕ) (q out₀ : List ℕ) (i n : ℕ) (here : i < length q) (more : i < n) (fits : from + length (pair_bytes (pairs_of n q)) ≤ length out₀) where
-  abbrev done : List ℕ
-  done = pair_bytes (pairs_of i q)
-
-  abbrev one : List ℕ
-  one = bytes_of_pair (pair_of (get_or q i 0))
-
-  longer : length (pair_bytes (pairs_of (i + 1) q)) ≡ length done + length one
-  longer = ap length (pairs_next q i here) ∙ length-append done one
-
-  pub one_fits : from + length done + length one ≤ length out₀
-  one_fits = omega (arith, longer, pairs_within q (i + 1) n (omega arith))
-
-  pub next_place : from + length done + length one ≡ from + length (pair_bytes (pairs_of (i + 1) q))
-  next_place = omega (arith, longer)
-
-  pub next_laid : (at : ℕ) (out out₁ : List ℕ) → at ≡ from + length done → out ≡ laid from done out₀ → out₁ ≡ laid at one out → out₁ ≡ laid from (pair_bytes (pairs_of (i + 1) q)) out₀
-  next_laid at out out₁ p e h =
-      h ∙ ap (λ n. laid n one out) p ∙ ap (laid (from + length done) one) e ∙ laid_laid from done one out₀ one_fits ∙ ap (λ bs. laid from bs out₀) (sym (pairs_next q i here))
+  pub full : (k : ℕ) → refuse k ≡ placed bs (at, out) → (k ≡ 10) × (length out < at + length bs)
+  full k e = go (side (length out) (at + length bs))
+    where
+      go : (length out < at + length bs) ⊎ (at + length bs ≤ length out) → (k ≡ 10) × (length out < at + length bs)
+      go (inl h) = (ap refusal_of (e ∙ sym (too_long bs at out h)), h)
+      go (inr h) = let z : ◌≡◌ {A = ℕ} 1 0 = ap is_refused (e ∙ sym (fits bs at out h)) in absurd (omega arith)

@@ -1,5 +1,5 @@
 // Map files and the run on them: bindings are added as they are read, keys are played on the map, and the
-// pairs are written. What a file's parts are read with stands in the crate below, whose numbers are handed on from here.
+// pairs are written. What a file's parts are read and written with stands in the crate below.
 #![tactic(auto)]
 
 mod bind;
@@ -7,6 +7,3 @@ pub mod map;
 mod pairs;
 mod play;
 pub mod run;
-pub mod write;
-
-pub use mapparts::number;

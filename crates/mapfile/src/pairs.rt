@@ -1,66 +1,32 @@
 // Writing pairs, each as three numbers.
-ghost use Rattle.std.specs.Prelude.{◌≡◌, ◌+◌, ◌≤◌, length};
-ghost use Rattle.rules.specs.Run.{pair_bytes};
-ghost use Rattle.keypairs.specs.View.{pair_of, pairs_of};
-ghost use Rattle.mapfile.specs.View.{laid, bytes_of_pair};
+ghost use Rattle.std.specs.Prelude.{◌≡◌, ◌∷◌, [], length, map};
+ghost use Rattle.keypairs.specs.View.{pair_of};
+ghost use Rattle.mapparts.specs.View.{Puts};
+ghost use Rattle.mapfile.specs.View.{pair_numbers};
 
-use crate::write;
 use keypairs::pair::Pair;
-use keyvalues::number;
+use keyvalues::refusal::Refusal;
+use mapparts::writer::Writer;
 
-fn pair_size(word: u64) -> usize
-    ensures { (result ≡ length (bytes_of_pair (pair_of word))) × (result ≤ 9) }
+// The pair of a word of the queue.
+#[tactic(auto, using(crate::proofs::PairBytes::numbers_of))]
+fn put_pair(word: u64, writer: &mut Writer) -> Result<(), Refusal>
+    ensures same { (writer.new.bytes.ghost_name ≡ writer.old.bytes.ghost_name) × (length writer.new.bytes.now ≡ length writer.old.bytes.now) }
+    ensures puts { Puts (pair_numbers (pair_of word ∷ [])) (writer.old.at, writer.old.bytes.now) result (writer.new.at, writer.new.bytes.now) }
 {
-    let p = Pair::unpack(word);
-    let x = p.context;
-    let a = write::size_of(p.action as u32);
-    let b = write::size_of(x.count as u32);
-    let c = write::size_of(x.mark as u32);
-    a + b + c
+    let pair = Pair::unpack(word);
+    writer.put(pair.action)?;
+    writer.put(pair.context.count)?;
+    writer.put(pair.context.mark)?;
+    Ok(())
 }
 
-// How many bytes the first `count` pairs take.
-pub(crate) fn pairs_size(queue: &[u64], count: u16) -> usize
-    ensures { result ≡ length (pair_bytes (pairs_of count queue.now)) }
+pub(crate) fn put_pairs(words: &[u64], writer: &mut Writer) -> Result<(), Refusal>
+    ensures same { (writer.new.bytes.ghost_name ≡ writer.old.bytes.ghost_name) × (length writer.new.bytes.now ≡ length writer.old.bytes.now) }
+    ensures puts { Puts (pair_numbers (map pair_of words.now)) (writer.old.at, writer.old.bytes.now) result (writer.new.at, writer.new.bytes.now) }
 {
-    let n = number::least(count, queue.len());
-    let mut size = 0usize;
-    let mut i = 0usize;
-    while i < n {
-        let one = pair_size(queue[i]);
-        size = size + one;
-        i = i + 1;
+    for word in words {
+        put_pair(*word, writer)?;
     }
-    size
-}
-
-// Answers the place after the pair.
-fn store_pair(out: &mut [u8], at: usize, word: u64) -> usize
-    requires { at + length (bytes_of_pair (pair_of word)) ≤ length out.old }
-    ensures { (result ≡ at + length (bytes_of_pair (pair_of word))) × (out.new ≡ laid at (bytes_of_pair (pair_of word)) out.old) }
-{
-    let p = Pair::unpack(word);
-    let x = p.context;
-    let b = at + write::size_of(p.action as u32);
-    let c = b + write::size_of(x.count as u32);
-    let d = c + write::size_of(x.mark as u32);
-    write::store(out, at, p.action as u32);
-    write::store(out, b, x.count as u32);
-    write::store(out, c, x.mark as u32);
-    d
-}
-
-// The first `count` pairs, which the caller has seen to fit. Answers the place after them.
-pub(crate) fn store_pairs(out: &mut [u8], from: usize, queue: &[u64], count: u16) -> usize
-    requires { from + length (pair_bytes (pairs_of count queue.now)) ≤ length out.old }
-    ensures { (result ≡ from + length (pair_bytes (pairs_of count queue.now))) × (out.new ≡ laid from (pair_bytes (pairs_of count queue.now)) out.old) }
-{
-    let n = number::least(count, queue.len());
-    let mut at = from;
-    let mut i = 0usize;
-    while i < n {
-        at = store_pair(out, at, queue[i]);
-        i = i + 1;
-    }
-    at
+    Ok(())
 }

@@ -1,16 +1,18 @@
 -- The keys of a run. A number takes a byte at least, so reading keys needs no fuel but the bytes themselves: it goes number
 -- by number.
-use Rattle.std.specs.Prelude.{if◌then◌else◌}
 use Prim.Native.Nat.{ℕ, zero, suc, ◌-◌, ◌≤◌, ◌<◌}
 use native.Mathlib.Omega.{arith}
 use mathlib.Core.Path.{◌≡◌, refl, sym, ap, ◌∙◌, subst}
 use mathlib.Core.Bool.{Bool, true, false, ◌&&◌}
 use mathlib.Core.List.{List, [], ◌∷◌}
 use lib.Dec.{ltb, leb}
-use lib.ListN.{length, drop, length-drop, drop_of_length-le}
+use lib.ListN.{length}
+use Rattle.std.specs.Prelude as Prelude
+use Rattle.std.specs.Prelude.{if◌then◌else◌, Ok, Err}
 use Rattle.rules.specs.Basics.{Result, accept, refuse, ◌>>=◌, unless}
 use Rattle.rules.specs.Numbers.{groups, value_of, shortest, number, number_up_to}
 use Rattle.rules.specs.Run.{numbers_in, read_keys}
+use Rattle.keyvalues.specs.declared.refusal.Refusal.{Refusal}
 use Rattle.mapparts.specs.View.{Checked}
 
 -- ---- a number takes a byte at least
@@ -42,11 +44,8 @@ number_shorter bs = go (groups bs) (groups_shorter bs)
     go (accept r) h = test (shortest r.0 && leb (value_of r.0) 65535) (value_of r.0) r.1 h
     go (refuse n) h = tt
 
-shorter : (bs rest : List ℕ) (v : ℕ) → number bs ≡ accept (v, rest) → length rest < length bs
-shorter bs rest v e = subst (Shorter bs) e (number_shorter bs)
-
-pub onward : (s : List ℕ) (at next v : ℕ) → accept (v, drop next s) ≡ number (drop at s) → at < next
-onward s at next v e = omega (arith, shorter (drop at s) (drop next s) v (sym e), length-drop at s, length-drop next s)
+pub shorter : (bs rest : List ℕ) (v : ℕ) → accept (v, rest) ≡ number bs → length rest < length bs
+shorter bs rest v e = subst (Shorter bs) (sym e) (number_shorter bs)
 
 -- ---- number by number
 
@@ -68,9 +67,10 @@ fuel (suc f) (suc g) (b ∷ bs) h k = go (λ r l m. fuel f g r l m) (number (b �
     go again (accept r) l = ap (keyed r.0) (again r.1 (omega arith) (omega arith))
     go again (refuse n) l = refl
 
-pub keys_none : (s : List ℕ) (at : ℕ) → length s ≤ at → read_keys (drop at s) ≡ accept []
+pub keys_none : (bs : List ℕ) → length bs ≡ 0 → read_keys bs ≡ accept []
 unfolding read_keys numbers_in
-keys_none s at h = rw (drop_of_length-le s h)
+keys_none [] h = refl
+keys_none (b ∷ bs) h = absurd (omega arith)
 
 keys_by : (bs : List ℕ) → 0 < length bs → read_keys bs ≡ (number bs >>= λ r. keyed r.0 (read_keys r.1))
 unfolding read_keys numbers_in
@@ -81,25 +81,22 @@ keys_by (b ∷ bs) h = go (number (b ∷ bs)) (number_shorter (b ∷ bs))
     go (accept r) l = ap (keyed r.0) (fuel (length bs) (length r.1) r.1 (omega arith) (omega arith))
     go (refuse n) l = refl
 
-module _ (s : List ℕ) (at : ℕ) (here : at < length s) where
-  there : 0 < length (drop at s)
-  there = omega (arith, length-drop at s)
-
-  pub key_more : (v next : ℕ) → accept (v, drop next s) ≡ number (drop at s) → read_keys (drop at s) ≡ keyed v (read_keys (drop next s))
-  key_more v next e = keys_by (drop at s) there ∙ sym (ap (λ x. x >>= λ r. keyed r.0 (read_keys r.1)) e)
-
-  pub key_bad : refuse 9 ≡ number (drop at s) → read_keys (drop at s) ≡ refuse 9
-  key_bad e = keys_by (drop at s) there ∙ sym (ap (λ x. x >>= λ r. keyed r.0 (read_keys r.1)) e)
+module _ (bs rest : List ℕ) (v : ℕ) (e : accept (v, rest) ≡ number bs) where
+  key_more : read_keys bs ≡ keyed v (read_keys rest)
+  key_more = keys_by bs (omega (arith, shorter bs rest v e)) ∙ sym (ap (λ x. x >>= λ r. keyed r.0 (read_keys r.1)) e)
 
   -- what is told of the keys that are left is so of all
-  pub checked_more : (v next : ℕ) → accept (v, drop next s) ≡ number (drop at s) → (b : Bool) → Checked b (read_keys (drop next s)) → Checked b (read_keys (drop at s))
-  checked_more v next e true h = (v ∷ h.0, key_more v next e ∙ ap (keyed v) h.1)
-  checked_more v next e false h = key_more v next e ∙ ap (keyed v) h
+  pub checked_more : (b : Prelude.Result (Unit {0}) Refusal) → Checked b (read_keys rest) → Checked b (read_keys bs)
+  checked_more (Ok x) h = (v ∷ h.0, key_more ∙ ap (keyed v) h.1)
+  checked_more (Err r) h = key_more ∙ ap (keyed v) h
 
   -- the first of the keys, and the others
-  pub key_first : (v next : ℕ) (ks : List ℕ) → accept (v, drop next s) ≡ number (drop at s) → read_keys (drop at s) ≡ accept ks → (rest : List ℕ) × (read_keys (drop next s) ≡ accept rest) × (v ∷ rest ≡ ks)
-  key_first v next ks e h = go (read_keys (drop next s)) refl (sym (key_more v next e) ∙ h)
+  pub key_first : (ks : List ℕ) → read_keys bs ≡ accept ks → (others : List ℕ) × (read_keys rest ≡ accept others) × (v ∷ others ≡ ks)
+  key_first ks h = go (read_keys rest) refl (sym key_more ∙ h)
     where
-      go : (x : Result (List ℕ)) → read_keys (drop next s) ≡ x → keyed v x ≡ accept ks → (rest : List ℕ) × (read_keys (drop next s) ≡ accept rest) × (v ∷ rest ≡ ks)
-      go (accept rest) p q = (rest, p, (let z : v ∷ rest ≡ ks = cc in z))
+      go : (x : Result (List ℕ)) → read_keys rest ≡ x → keyed v x ≡ accept ks → (others : List ℕ) × (read_keys rest ≡ accept others) × (v ∷ others ≡ ks)
+      go (accept others) p q = (others, p, (let z : v ∷ others ≡ ks = cc in z))
       go (refuse n) p q = let z : ◌≡◌ {A = ℕ} 0 1 = cc in absurd (omega arith)
+
+pub key_bad : (bs : List ℕ) (n : ℕ) → (length bs ≡ 0 → ⊥) → refuse n ≡ number bs → read_keys bs ≡ refuse n
+key_bad bs n h e = keys_by bs (omega arith) ∙ sym (ap (λ x. x >>= λ r. keyed r.0 (read_keys r.1)) e)

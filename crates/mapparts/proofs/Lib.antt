@@ -1,8 +1,8 @@
--- Laws that belong to no one function: a reader of the rules goes on where the one before it left off, so the readers of the
--- code, each proved against one of them, join to the reader of what they are parts of.
-pub mod NumberAt
+-- Laws that belong to no one function: how the rules' number goes by bytes, reading as many elements as a count says, what lists
+-- in arrays mean, and the keys of a run.
+pub mod NumberBy
 pub mod Reading
+pub mod Writing
 pub mod Parts
-pub mod Rows
-pub mod TableWords
+pub mod Ranges
 pub mod KeyBytes

@@ -1,31 +1,17 @@
--- What the answers of the file's readers mean, in the values of the rules.
-use Rattle.std.specs.Prelude.{ℕ, ◌≡◌, Bool, true, false, List, drop}
+-- What the file's readers give, in the values of the rules.
+use Rattle.std.specs.Prelude as Prelude
+use Rattle.std.specs.Prelude.{Ok, Err, ℕ, ◌+◌, ◌≡◌, List, [], ◌∷◌, ◌++◌, leb, length, take, drop}
 use Rattle.std.proofs.Math.Option.{Option}
-use Rattle.rules.specs.Basics.{Result, accept, refuse, ◌>>=◌}
+use Rattle.rules.specs.Basics.{Result, accept, refuse, ◌>>=◌, unless}
 use Rattle.rules.specs.Values.{Event, Repeat}
-use Rattle.rules.specs.Numbers.{number}
+use Rattle.rules.specs.Numbers.{number, bytes_of}
 use Rattle.rules.specs.MapFile.{Reader, then_read, give, up_to, optional_mark, repeat_by, event_by}
-use Rattle.keyvalues.specs.View.{outcome}
-use Rattle.mapparts.specs.declared.number.Read.{Read}
-use Rattle.mapparts.specs.declared.number.Read.TheVariants.{Number, Bad}
-use Rattle.mapparts.specs.declared.place.FilePlace.{FilePlace}
+use Rattle.keyvalues.specs.View.{number_of, told}
+use Rattle.keyvalues.specs.declared.refusal.Refusal.{Refusal}
 
--- a number and the bytes from the place after it on, or 9
-abbrev pub read_of : List ℕ → Read → Result (ℕ × List ℕ)
-read_of s (Number value next) = accept (value, drop next s)
-read_of s Bad = refuse 9
-
--- the bytes that are left, or the refusal
-unfoldable pub place_of : List ℕ → FilePlace → Result (List ℕ)
-place_of s c = outcome c.refusal (drop c.at s)
-
--- a value beside the bytes that are left
-abbrev pub with : {A : Type 0} → A → Result (List ℕ) → Result (A × List ℕ)
-with a y = y >>= λ bs. accept (a, bs)
-
--- the reader, from x on, reads the value a and leaves y. It is a record, so that its parts are found by their types
-pub record Reads {A : Type 0} (x : Result (List ℕ)) (r : Reader A) (a : A) (y : Result (List ℕ)) : Type 0 where
-  pub is : with a y ≡ (x >>= r)
+-- a call reads as the rules' reader does, from the bytes before it to those after it, where f says what its value means
+abbrev pub Reads : {A B : Type 0} → (A → B) → Reader B → List ℕ → Prelude.Result A Refusal → List ℕ → Type 0
+Reads f read before result after = told (λ a. (f a, after)) result ≡ read before
 
 -- ---- parts of the rules' readers, under a name
 
@@ -38,9 +24,32 @@ read_repeat = λ bs. then_read (up_to 2 bs) repeat_by
 abbrev pub read_event : Reader Event
 read_event = λ bs. then_read (up_to 3 bs) event_by
 
+-- ---- writing
+
+-- the bytes in the place of those that stood there
+unfoldable pub laid : ℕ → List ℕ → List ℕ → List ℕ
+laid at bs out = take at out ++ bs ++ drop (at + length bs) out
+
+-- how far an output is written, and its bytes
+abbrev pub Page : Type 0
+Page = ℕ × List ℕ
+
+-- bytes at the place: 10 they do not fit
+unfoldable pub placed : List ℕ → Page → Result Page
+placed bs p = unless (leb (p.0 + length bs) (length p.1)) 10 (accept (p.0 + length bs, laid p.0 bs p.1))
+
+-- numbers one behind another
+abbrev pub put_all : List ℕ → Page → Result Page
+put_all [] p = accept p
+put_all (n ∷ ns) p = placed (bytes_of n) p >>= put_all ns
+
+-- a call puts the numbers, from the page before it to the one after it
+abbrev pub Puts : List ℕ → Page → Prelude.Result (Unit {0}) Refusal → Page → Type 0
+Puts ns before result after = told (λ _. after) result ≡ put_all ns before
+
 -- ---- keys
 
--- all of them were read, or there was a bad one
-abbrev pub Checked : Bool → Result (List ℕ) → Type 0
-Checked true x = (ks : List ℕ) × (x ≡ accept ks)
-Checked false x = x ≡ refuse 9
+-- all of them were read, or the first that is none gives the refusal
+abbrev pub Checked : Prelude.Result (Unit {0}) Refusal → Result (List ℕ) → Type 0
+Checked (Ok x) r = (ks : List ℕ) × (r ≡ accept ks)
+Checked (Err e) r = r ≡ refuse (number_of e)

@@ -1,53 +1,48 @@
 // Bindings, each as the call that it makes.
-ghost use Rattle.rules.specs.MapFile.{read_binding};
-ghost use Rattle.keptcalls.specs.View.{binding_of};
-ghost use Rattle.mapparts.specs.View.{place_of, Reads};
+ghost use Rattle.std.specs.Prelude.{◌≡◌};
+ghost use Rattle.rules.specs.MapFile.{read_binding, at_end};
+ghost use Rattle.keyvalues.specs.View.{told};
+ghost use Rattle.keptcalls.specs.View.{binding_in};
+ghost use Rattle.mapparts.specs.View.{Reads};
 
-use crate::place::FilePlace;
+use crate::reader::Reader;
 use crate::{part, step};
-use keptcalls::call::BindingCall;
-use keyvalues::step::Step;
+use keptcalls::binding::Binding;
+use keyvalues::refusal::Refusal;
 use keyvalues::tables::TableWords;
 
-#[derive(Clone, Copy)]
-pub struct BindingRead {
-    pub call: BindingCall,
-    pub place: FilePlace,
+// Kind, mode, path, and the step for kinds 0 and 2.
+#[tactic(auto, unfolding(rules::specs::MapFile::binding_by))]
+pub fn read_binding(reader: &mut Reader) -> Result<Binding, Refusal>
+    ensures { Reads binding_in read_binding reader.old.rest.now result reader.new.rest.now }
+{
+    let kind = reader.up_to(2)?;
+    let mode = reader.below(TableWords::MODES)?;
+    let path = part::read_path(reader)?;
+    match kind {
+        0 => {
+            let step = step::read_step(reader)?;
+            Ok(Binding::Mapping { mode, path, step })
+        }
+        1 => Ok(Binding::Prefix {
+            mode,
+            path,
+            step: None,
+        }),
+        _ => {
+            let step = Some(step::read_step(reader)?);
+            Ok(Binding::Prefix { mode, path, step })
+        }
+    }
 }
 
-// Kind, mode, path, and the step for kinds 0 and 2.
-pub fn read_binding(s: &[u8], from: FilePlace) -> BindingRead
-    ensures { Reads (place_of s.now from) read_binding (binding_of result.call) (place_of s.now result.place) }
+// A binding that stands alone: nothing may be left behind it.
+#[tactic(auto, using(crate::proofs::Reading::end_of, crate::proofs::Reading::end_left), unfolding(rules::specs::MapFile::at_end))]
+pub fn read_alone(bytes: &[u8]) -> Result<Binding, Refusal>
+    ensures { told binding_in result ≡ at_end (read_binding bytes.now) }
 {
-    let kind = from.up_to(s, 2);
-    let a = kind.place;
-    let mode = a.below(s, TableWords::MODES);
-    let b = mode.place;
-    let parts = part::read_path(s, b);
-    let c = parts.place;
-    let path = parts.path;
-    if kind.value == 1 {
-        let none = Step::default();
-        return BindingRead {
-            call: BindingCall {
-                kind: 1,
-                mode: mode.value,
-                path: path,
-                step: none,
-            },
-            place: c,
-        };
-    }
-    let read = step::read_step(s, c);
-    let d = read.place;
-    let does = read.step;
-    BindingRead {
-        call: BindingCall {
-            kind: kind.value,
-            mode: mode.value,
-            path: path,
-            step: does,
-        },
-        place: d,
-    }
+    let mut reader = Reader { rest: bytes };
+    let call = read_binding(&mut reader)?;
+    reader.end()?;
+    Ok(call)
 }

@@ -2,22 +2,16 @@
 ghost use Rattle.rules.specs.Run.{read_keys};
 ghost use Rattle.mapparts.specs.View.{Checked};
 
-use crate::number;
-use crate::number::Read;
+use crate::reader::Reader;
+use keyvalues::refusal::Refusal;
 
 // Do the bytes hold numbers to their end?
-pub fn check_keys(s: &[u8]) -> bool
-    ensures { Checked result (read_keys s.now) }
+pub fn check_keys(bytes: &[u8]) -> Result<(), Refusal>
+    ensures { Checked result (read_keys bytes.now) }
 {
-    let mut at = 0usize;
-    while at < s.len() {
-        let r = number::read_number(s, at);
-        match r {
-            Read::Bad => return false,
-            Read::Number { value: _, next } => {
-                at = next;
-            }
-        }
+    let mut keys = Reader { rest: bytes };
+    while !keys.rest.is_empty() {
+        keys.number()?;
     }
-    true
+    Ok(())
 }

@@ -1,86 +1,96 @@
-// Lists of actions, and what may be missing.
-ghost use Rattle.std.specs.Prelude.{◌≡◌, ◌≤◌, length};
-ghost use Rattle.rules.specs.MapFile.{read_actions, read_optional_mode};
+// Lists, of actions among others, and what may be missing.
+ghost use Rattle.std.specs.Prelude.{◌≡◌, true, ◌≤◌, ℕ, List, length, map, take, IfOk};
+ghost use Rattle.rules.specs.Basics.{Result, present};
+ghost use Rattle.rules.specs.Values.{is_mode};
 ghost use Rattle.rules.specs.Numbers.{number};
-ghost use Rattle.keyvalues.specs.View.{fit, maybe_of};
-ghost use Rattle.mapparts.specs.View.{place_of, Reads, read_mark};
+ghost use Rattle.rules.specs.MapFile.{list_of, read_actions, read_optional_mode};
+ghost use Rattle.keyvalues.specs.View.{maybe_of};
+ghost use Rattle.keytables.specs.View.{whole_actions};
+ghost use Rattle.mapparts.specs.View.{Reads, read_mark};
 
-use crate::place::FilePlace;
+use crate::reader::Reader;
+use keytables::tables::Actions;
+use keyvalues::refusal::Refusal;
 use keyvalues::step::Step;
 use keyvalues::tables::TableWords;
 
-// The first `count` actions are the list.
-#[derive(Clone, Copy)]
-pub struct ActionsRead {
-    pub actions: [u16; Step::ACTIONS as usize],
-    pub count: u16,
-    pub place: FilePlace,
+// What a file has lists of. Of an element that is read a value is kept, which may be a word.
+pub trait Listed {
+    type Kept: Copy;
+
+    // What the rules read, and by which reader; and what of it is kept.
+    ghost Value: { Type 0 };
+
+    ghost read: { List ℕ → Result (Value × List ℕ) };
+
+    ghost value: { Self.Kept → Value };
+
+    fn read_from(reader: &mut Reader) -> Result<Self::Kept, Refusal>
+        ensures { Reads value read reader.old.rest.now result reader.new.rest.now };
 }
 
-#[derive(Clone, Copy)]
-pub struct MaybeRead {
-    pub value: Option<u16>,
-    pub place: FilePlace,
+// An action.
+impl Listed for u16 {
+    type Kept = u16;
+
+    ghost Value = { ℕ };
+
+    ghost read = { number };
+
+    ghost value = { λ n. n };
+
+    fn read_from(reader: &mut Reader) -> Result<u16, Refusal> {
+        reader.number()
+    }
 }
 
-// A count, then actions.
-pub fn read_actions(s: &[u8], from: FilePlace) -> ActionsRead
-    ensures count_bound { (result.count ≤ 4) × (length result.actions ≡ 4) }
-    ensures reads { Reads (place_of s.now from) read_actions (fit 0 result.count result.actions) (place_of s.now result.place) }
+// A count of at most `most`, then so many. The first items are the list.
+pub fn read_list<E: Listed>(
+    reader: &mut Reader,
+    most: u16,
+    items: &mut [E::Kept],
+) -> Result<u16, Refusal>
+    requires { most ≤ length items.old }
+    ensures bound { IfOk result (λ n. n ≤ most) }
+    ensures reads { Reads (λ n. map E.value (take n items.new)) (list_of most E.read) reader.old.rest.now result reader.new.rest.now }
 {
-    let n = from.up_to(s, Step::ACTIONS);
-    let count = n.value;
-    let mut at = n.place;
-    let mut actions = [0u16; Step::ACTIONS as usize];
-    let mut i = 0u16;
-    while i < count {
-        let a = at.number(s);
-        let k = i as usize;
-        actions[k] = a.value;
-        at = a.place;
-        i = i + 1;
+    let count = reader.up_to(most)?;
+    for item in &mut items[..count as usize] {
+        *item = E::read_from(reader)?;
     }
-    ActionsRead {
-        actions: actions,
-        count: count,
-        place: at,
-    }
+    Ok(count)
+}
+
+// A list of actions.
+#[tactic(auto, using(crate::proofs::Parts::fit_numbers))]
+pub fn read_actions(reader: &mut Reader) -> Result<Actions, Refusal>
+    ensures bound { IfOk result (λ a. a.count ≤ 4) }
+    ensures reads { Reads whole_actions read_actions reader.old.rest.now result reader.new.rest.now }
+{
+    let mut items = [0u16; Step::ACTIONS as usize];
+    let count = read_list::<u16>(reader, Step::ACTIONS, &mut items)?;
+    Ok(Actions { items, count })
 }
 
 // 0, or mode + 1.
-pub fn read_optional_mode(s: &[u8], from: FilePlace) -> MaybeRead
-    ensures { Reads (place_of s.now from) read_optional_mode (maybe_of result.value) (place_of s.now result.place) }
+#[tactic(auto, unfolding(rules::specs::MapFile::optional, rules::specs::Basics::present))]
+pub fn read_optional_mode(reader: &mut Reader) -> Result<Option<u16>, Refusal>
+    ensures bound { IfOk result (λ m. present is_mode (maybe_of m) ≡ true) }
+    ensures reads { Reads maybe_of read_optional_mode reader.old.rest.now result reader.new.rest.now }
 {
-    let n = from.up_to(s, TableWords::MODES);
-    let c = n.place;
-    let v = n.value;
-    if v == 0 {
-        return MaybeRead {
-            value: None,
-            place: c,
-        };
-    }
-    MaybeRead {
-        value: Some(v - 1),
-        place: c,
+    match reader.up_to(TableWords::MODES)? {
+        0 => Ok(None),
+        n => Ok(Some(n - 1)),
     }
 }
 
 // 0, or the mark itself.
-pub fn read_mark(s: &[u8], from: FilePlace) -> MaybeRead
-    ensures { Reads (place_of s.now from) read_mark (maybe_of result.value) (place_of s.now result.place) }
+#[tactic(auto, unfolding(rules::specs::MapFile::optional_mark))]
+pub fn read_mark(reader: &mut Reader) -> Result<Option<u16>, Refusal>
+    ensures { Reads maybe_of read_mark reader.old.rest.now result reader.new.rest.now }
 {
-    let n = from.number(s);
-    let c = n.place;
-    let v = n.value;
-    if v == 0 {
-        return MaybeRead {
-            value: None,
-            place: c,
-        };
-    }
-    MaybeRead {
-        value: Some(v),
-        place: c,
+    match reader.number()? {
+        0 => Ok(None),
+        n => Ok(Some(n)),
     }
 }

@@ -1,141 +1,69 @@
 // Paths: parts, each a repeat and an event.
-ghost use Rattle.rules.specs.Values.{most_parts};
+ghost use Rattle.std.specs.Prelude.{ℕ};
+ghost use Rattle.rules.specs.Values.{Part, most_parts};
 ghost use Rattle.rules.specs.MapFile.{read_part, list_of};
 ghost use Rattle.keyvalues.specs.View.{repeat_of, event_of, part_of, whole_path};
-ghost use Rattle.mapparts.specs.View.{place_of, Reads, read_repeat, read_event};
+ghost use Rattle.mapparts.specs.View.{Reads, read_repeat, read_event};
 
-use crate::place::FilePlace;
+use crate::list;
+use crate::list::Listed;
+use crate::reader::Reader;
 use keyvalues::event::{EdgeEvent, EdgeRepeat};
 use keyvalues::path::{EdgePath, EdgePathPart};
-
-#[derive(Clone, Copy)]
-struct RepeatRead {
-    pub repeat: EdgeRepeat,
-    pub place: FilePlace,
-}
-
-#[derive(Clone, Copy)]
-struct EventRead {
-    pub event: EdgeEvent,
-    pub place: FilePlace,
-}
-
-#[derive(Clone, Copy)]
-struct PartRead {
-    pub part: EdgePathPart,
-    pub place: FilePlace,
-}
-
-#[derive(Clone, Copy)]
-pub struct PathRead {
-    pub path: EdgePath,
-    pub place: FilePlace,
-}
+use keyvalues::refusal::Refusal;
 
 // 0 once, 1 min, 2 max, the latter two with a number.
-fn read_repeat(s: &[u8], from: FilePlace) -> RepeatRead
-    ensures { Reads (place_of s.now from) read_repeat (repeat_of result.repeat) (place_of s.now result.place) }
+#[tactic(auto, unfolding(rules::specs::MapFile::repeat_by))]
+fn read_repeat(reader: &mut Reader) -> Result<EdgeRepeat, Refusal>
+    ensures { Reads repeat_of read_repeat reader.old.rest.now result reader.new.rest.now }
 {
-    let k = from.up_to(s, 2);
-    let c = k.place;
-    if k.value == 0 {
-        return RepeatRead {
-            repeat: EdgeRepeat::Once,
-            place: c,
-        };
-    }
-    let n = c.up_to(s, EdgeRepeat::MOST);
-    let d = n.place;
-    if k.value == 1 {
-        return RepeatRead {
-            repeat: EdgeRepeat::Min(n.value),
-            place: d,
-        };
-    }
-    RepeatRead {
-        repeat: EdgeRepeat::Max(n.value),
-        place: d,
+    match reader.up_to(2)? {
+        0 => Ok(EdgeRepeat::Once),
+        1 => Ok(EdgeRepeat::Min(reader.up_to(EdgeRepeat::MOST)?)),
+        _ => Ok(EdgeRepeat::Max(reader.up_to(EdgeRepeat::MOST)?)),
     }
 }
 
 // 0 key, 1 class, 2 any, 3 fallthrough, the first two with a value.
-fn read_event(s: &[u8], from: FilePlace) -> EventRead
-    ensures { Reads (place_of s.now from) read_event (event_of result.event) (place_of s.now result.place) }
+#[tactic(auto, unfolding(rules::specs::MapFile::event_by))]
+fn read_event(reader: &mut Reader) -> Result<EdgeEvent, Refusal>
+    ensures { Reads event_of read_event reader.old.rest.now result reader.new.rest.now }
 {
-    let k = from.up_to(s, 3);
-    let c = k.place;
-    if k.value == 0 {
-        let n = c.number(s);
-        let d = n.place;
-        return EventRead {
-            event: EdgeEvent::Key(n.value),
-            place: d,
-        };
-    }
-    if k.value == 1 {
-        let n = c.below(s, EdgeEvent::CLASSES);
-        let d = n.place;
-        return EventRead {
-            event: EdgeEvent::Class(n.value),
-            place: d,
-        };
-    }
-    if k.value == 2 {
-        return EventRead {
-            event: EdgeEvent::Any,
-            place: c,
-        };
-    }
-    EventRead {
-        event: EdgeEvent::Fallthrough,
-        place: c,
+    match reader.up_to(3)? {
+        0 => Ok(EdgeEvent::Key(reader.number()?)),
+        1 => Ok(EdgeEvent::Class(reader.below(EdgeEvent::CLASSES)?)),
+        2 => Ok(EdgeEvent::Any),
+        _ => Ok(EdgeEvent::Fallthrough),
     }
 }
 
-fn read_part(s: &[u8], from: FilePlace) -> PartRead
-    ensures { Reads (place_of s.now from) read_part (part_of result.part) (place_of s.now result.place) }
-{
-    let r = read_repeat(s, from);
-    let c = r.place;
-    let e = read_event(s, c);
-    let d = e.place;
-    let repeat = r.repeat;
-    let event = e.event;
-    PartRead {
-        part: EdgePathPart {
-            repeat: repeat,
-            event: event,
-        },
-        place: d,
+impl Listed for EdgePathPart {
+    type Kept = EdgePathPart;
+
+    ghost Value = { Part };
+
+    ghost read = { read_part };
+
+    ghost value = { part_of };
+
+    #[tactic(auto, unfolding(keyvalues::specs::View::part_of))]
+    fn read_from(reader: &mut Reader) -> Result<EdgePathPart, Refusal> {
+        let repeat = read_repeat(reader)?;
+        let event = read_event(reader)?;
+        Ok(EdgePathPart { repeat, event })
     }
 }
 
 // A count, then parts.
-pub fn read_path(s: &[u8], from: FilePlace) -> PathRead
-    ensures { Reads (place_of s.now from) (list_of most_parts read_part) (whole_path result.path) (place_of s.now result.place) }
+#[tactic(auto, using(crate::proofs::Parts::fit_map))]
+pub fn read_path(reader: &mut Reader) -> Result<EdgePath, Refusal>
+    ensures { Reads whole_path (list_of most_parts read_part) reader.old.rest.now result reader.new.rest.now }
 {
-    let n = from.up_to(s, EdgePath::PARTS);
-    let count = n.value;
-    let mut at = n.place;
     let none = EdgePathPart {
         repeat: EdgeRepeat::Once,
         event: EdgeEvent::Any,
     };
     let mut parts = [none; EdgePath::PARTS as usize];
-    let mut i = 0u16;
-    while i < count {
-        let p = read_part(s, at);
-        let k = i as usize;
-        let part = p.part;
-        parts[k] = part;
-        at = p.place;
-        i = i + 1;
-    }
-    PathRead {
-        path: EdgePath {
-            parts: parts,
-            count: count,
-        },
-        place: at,
-    }
+    let count = list::read_list::<EdgePathPart>(reader, EdgePath::PARTS, &mut parts)?;
+    Ok(EdgePath { parts, count })
 }

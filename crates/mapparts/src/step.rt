@@ -1,45 +1,34 @@
 // Steps.
+ghost use Rattle.std.specs.Prelude.{◌≤◌, IfOk};
 ghost use Rattle.rules.specs.MapFile.{read_step};
 ghost use Rattle.keyvalues.specs.View.{whole_step};
-ghost use Rattle.mapparts.specs.View.{place_of, Reads};
+ghost use Rattle.mapparts.specs.View.{Reads};
 
 use crate::list;
-use crate::place::FilePlace;
+use crate::reader::Reader;
+use keytables::tables::Actions;
+use keyvalues::refusal::Refusal;
 use keyvalues::step::Step;
 
-#[derive(Clone, Copy)]
-pub struct StepRead {
-    pub step: Step,
-    pub place: FilePlace,
-}
-
 // Flag, list, next mode, fallthrough, mark.
-pub fn read_step(s: &[u8], from: FilePlace) -> StepRead
-    ensures { Reads (place_of s.now from) read_step (whole_step result.step) (place_of s.now result.place) }
+#[tactic(auto, using(crate::proofs::Parts::fit_numbers))]
+pub fn read_step(reader: &mut Reader) -> Result<Step, Refusal>
+    ensures { Reads whole_step read_step reader.old.rest.now result reader.new.rest.now }
 {
-    let flag = from.up_to(s, 1);
-    let a = flag.place;
-    let actions = list::read_actions(s, a);
-    let b = actions.place;
-    let next = list::read_optional_mode(s, b);
-    let c = next.place;
-    let fall = list::read_optional_mode(s, c);
-    let d = fall.place;
-    let mark = list::read_mark(s, d);
-    let e = mark.place;
-    let does = actions.actions;
-    let to = next.value;
-    let falls = fall.value;
-    let sets = mark.value;
-    StepRead {
-        step: Step {
-            unmapped: flag.value == 1,
-            actions: does,
-            count: actions.count,
-            next: to,
-            fallthrough: falls,
-            mark: sets,
-        },
-        place: e,
-    }
+    let flag = reader.up_to(1)?;
+    let Actions {
+        items: actions,
+        count,
+    } = list::read_actions(reader)?;
+    let next = list::read_optional_mode(reader)?;
+    let fallthrough = list::read_optional_mode(reader)?;
+    let mark = list::read_mark(reader)?;
+    Ok(Step {
+        unmapped: flag == 1,
+        actions,
+        count,
+        next,
+        fallthrough,
+        mark,
+    })
 }

@@ -6,18 +6,20 @@ use native.Mathlib.Nat.{mul-suc}
 use mathlib.Core.Logic.{◌⊎◌, inl, inr}
 use mathlib.Core.Path.{◌≡◌, refl, ap}
 use mathlib.Core.List.{List, [], ◌∷◌, ◌++◌, map, flat_map}
-use lib.ListN.{length, take, drop, get_or, length-append, length-take}
+use lib.ListN.{length, take, length-append, length-take}
 use Rattle.rules.specs.Values.{Event, Key, Class, Any, Fallthrough, Repeat, Once, Min, Max, Part, Step}
 use Rattle.rules.specs.Numbers.{bytes_of}
 use Rattle.rules.specs.MapFile.{optional, optional_mark}
-use Rattle.rules.specs.Writing.{alone, listed, class_numbers, mode_number, mark_number, mode_numbers, rule_numbers, tables_numbers, repeat_numbers, event_numbers, part_numbers, step_numbers, binding_numbers, map_numbers, in_bytes}
+use Rattle.rules.specs.Writing.{alone, listed, class_numbers, mode_number, mark_number, mode_numbers, rule_numbers, tables_numbers, repeat_numbers, event_numbers, part_numbers, step_numbers, binding_numbers, map_numbers, in_bytes, write_map}
 use Rattle.rules.proofs.Numbers.{side, written_one}
-use Rattle.keyvalues.specs.View.{four_of, opt_of, call_of, class_at, sizes_in, class_words, mode_words, rule_words}
-use Rattle.keytables.specs.View.{blocks, entry_of, rule_of, tables_in}
-use Rattle.keytables.proofs.Blocks.{length-blocks}
-use Rattle.keptcalls.specs.View.{parts_in, step_at, call_by, call_at, calls_in}
+use Rattle.keyvalues.specs.View.{four_of, opt_of, call_of, class_at}
+use Rattle.keyvalues.specs.declared.tables.TableWords.{TableWords}
+use Rattle.keyvalues.specs.declared.tables.ModeWords.{ModeWords}
+use Rattle.keytables.specs.View.{entry_in, rule_of, tables_of}
+use Rattle.keptcalls.specs.View.{parts_in, step_at, call_by, call_in, kept_in}
+use Rattle.keptcalls.specs.declared.words.CallWords.{CallWords}
 use Rattle.keptcalls.proofs.Reading.{length-parts}
-use Rattle.mapfile.proofs.Writing.{bytes_two, bytes_three}
+use Rattle.mapparts.proofs.Writing.{bytes_two, bytes_three}
 
 -- ---- lists
 
@@ -47,13 +49,13 @@ module _ {A B : Type 0} (w : B → List ℕ) (f : A → B) where
 actions_few : (n w : ℕ) → length (listed alone (take n (four_of w))) ≤ 5
 actions_few n w = omega (arith, listed_few alone 1 (λ x. omega arith) (take n (four_of w)), length-take n (four_of w))
 
-mode_few : (b : List ℕ) → length (mode_numbers (entry_of b)) ≤ 11
-unfolding mode_numbers entry_of
+mode_few : (b : ModeWords) → length (mode_numbers (entry_in b)) ≤ 11
+unfolding mode_numbers entry_in
 mode_few b =
-    let e = listed alone (take (get_or b 2 0 % 8) (four_of (get_or b 0 0))) in
-    let u = listed alone (take (get_or b 2 0 / 8 % 8) (four_of (get_or b 1 0))) in
-    let n = alone (mode_number (opt_of (get_or b 2 0 / 64))) in
-    omega (arith, length-append e (u ++ n), length-append u n, actions_few (get_or b 2 0 % 8) (get_or b 0 0), actions_few (get_or b 2 0 / 8 % 8) (get_or b 1 0))
+    let e = listed alone (take (b.head % 8) (four_of (b.enter))) in
+    let u = listed alone (take (b.head / 8 % 8) (four_of (b.unmapped))) in
+    let n = alone (mode_number (opt_of (b.head / 64))) in
+    omega (arith, length-append e (u ++ n), length-append u n, actions_few (b.head % 8) (b.enter), actions_few (b.head / 8 % 8) (b.unmapped))
 
 class_few : (w : ℕ) → length (class_numbers (class_at w)) ≤ 3
 unfolding class_numbers
@@ -88,51 +90,60 @@ step_few h w =
     let m = mark_number (optional_mark (h / 2 / 8 / 32 / 32 % 65536)) in
     omega (arith, actions_few (h / 2 % 8) w, length-append (listed alone (take (h / 2 % 8) (four_of w))) (n ∷ f ∷ m ∷ []))
 
-call_few : (kind mode : ℕ) (path : List Part) (st : Step) → length path ≤ 32 → length (step_numbers st) ≤ 9 → length (binding_numbers (call_of kind mode path st)) ≤ 140
+call_few : (kind mode : ℕ) (path : List Part) (st : Step) (most : ℕ) → length path ≤ most → length (step_numbers st) ≤ 9 → length (binding_numbers (call_of kind mode path st)) ≤ 12 + 4 * most
 unfolding call_of binding_numbers
-call_few zero mode path st h k = omega (arith, listed_few part_numbers 4 part_few path, length-append (listed part_numbers path) (step_numbers st))
-call_few (suc zero) mode path st h k = omega (arith, listed_few part_numbers 4 part_few path)
-call_few (suc (suc n)) mode path st h k = omega (arith, listed_few part_numbers 4 part_few path, length-append (listed part_numbers path) (step_numbers st))
+call_few zero mode path st most h k = omega (arith, listed_few part_numbers 4 part_few path, length-append (listed part_numbers path) (step_numbers st))
+call_few (suc zero) mode path st most h k = omega (arith, listed_few part_numbers 4 part_few path)
+call_few (suc (suc n)) mode path st most h k = omega (arith, listed_few part_numbers 4 part_few path, length-append (listed part_numbers path) (step_numbers st))
 
-path_few : (n : ℕ) (b : List ℕ) → length (take n (parts_in (take 16 b))) ≤ 32
-path_few n b = omega (arith, length-take n (parts_in (take 16 b)), length-parts (take 16 b), length-take 16 b)
+-- a call, by how many parts its path has at most
+kept_by : (w : CallWords) (most : ℕ) → length (take (w.head / 4 / 16 % 64) (parts_in w.parts)) ≤ most → length (binding_numbers (call_in w)) ≤ 12 + 4 * most
+unfolding call_by
+kept_by w most l =
+    let h = w.head in
+    call_few (h % 4) (h / 4 % 16) (take (h / 4 / 16 % 64) (parts_in w.parts)) (step_at (h / 4 / 16 / 64) w.actions) most l (step_few (h / 4 / 16 / 64) w.actions)
 
-kept_few : (b : List ℕ) → length (binding_numbers (call_at b)) ≤ 140
-unfolding call_at call_by
-kept_few b =
-    let h = get_or b 16 0 in
-    call_few (h % 4) (h / 4 % 16) (take (h / 4 / 16 % 64) (parts_in (take 16 b))) (step_at (h / 4 / 16 / 64) (get_or b 17 0)) (path_few (h / 4 / 16 % 64) b) (step_few (h / 4 / 16 / 64) (get_or b 17 0))
+kept_few : (w : CallWords) → length (binding_numbers (call_in w)) ≤ 264
+kept_few w =
+    let l : length (take (w.head / 4 / 16 % 64) (parts_in w.parts)) ≤ 63 = omega (arith, length-take (w.head / 4 / 16 % 64) (parts_in w.parts)) in
+    kept_by w 63 l
+
+abbrev pub Sixteen : List CallWords → Type 0
+Sixteen [] = Unit {0}
+Sixteen (w ∷ ws) = (length w.parts ≤ 16) × Sixteen ws
+
+sixteen_take : (n : ℕ) (ws : List CallWords) → Sixteen ws → Sixteen (take n ws)
+sixteen_take zero ws h = tt
+sixteen_take (suc n) [] h = tt
+sixteen_take (suc n) (w ∷ ws) h = (h.0, sixteen_take n ws h.1)
+
+calls_few : (ws : List CallWords) → Sixteen ws → length (listed binding_numbers (map call_in ws)) ≤ 1 + 140 * length ws
+unfolding listed flat_map
+calls_few ws h = go ws h
+  where
+    go : (ws : List CallWords) → Sixteen ws → suc (length (flat_map binding_numbers (map call_in ws))) ≤ 1 + 140 * length ws
+    go [] h = omega arith
+    go (w ∷ ws) h =
+        let l : length (take (w.head / 4 / 16 % 64) (parts_in w.parts)) ≤ 32 = omega (arith, length-take (w.head / 4 / 16 % 64) (parts_in w.parts), length-parts w.parts, h.0) in
+        omega (arith, go ws h.1, kept_by w 32 l, length-append (binding_numbers (call_in w)) (flat_map binding_numbers (map call_in ws)), mul-suc 140 (length ws))
 
 -- ---- the map
 
-tables_few : (ws : List ℕ) → length (tables_numbers (tables_in ws)) ≤ 547
-unfolding tables_numbers tables_in class_words mode_words rule_words
-tables_few ws =
-    let z = sizes_in ws in
-    let cs = take 16 (drop 3 ws) in
-    let ms = blocks 3 16 (take 48 (drop 19 ws)) in
-    let rs = take 64 (drop 67 ws) in
-    let c = listed class_numbers (map class_at (take z.classes cs)) in
-    let m = listed mode_numbers (map entry_of (take z.modes ms)) in
-    let r = listed rule_numbers (map rule_of (take z.rules rs)) in
+tables_few : (t : TableWords) (c m r : ℕ) → length (take t.class_count t.classes) ≤ c → length (take t.mode_count t.modes) ≤ m → length (take t.rule_count t.rules) ≤ r
+    → length (tables_numbers (tables_of t)) ≤ 3 + 3 * c + 11 * m + 5 * r
+unfolding tables_numbers
+tables_few t c m r hc hm hr =
+    let cs = listed class_numbers (map class_at (take t.class_count t.classes)) in
+    let ms = listed mode_numbers (map entry_in (take t.mode_count t.modes)) in
+    let rs = listed rule_numbers (map rule_of (take t.rule_count t.rules)) in
     omega (
       arith,
-      length-append c (m ++ r),
-      length-append m r,
-      table_few class_numbers class_at 3 class_few z.classes cs,
-      table_few mode_numbers entry_of 11 mode_few z.modes ms,
-      table_few rule_numbers rule_of 5 rule_few z.rules rs,
-      length-take z.classes cs,
-      length-take 16 (drop 3 ws),
-      length-take z.modes ms,
-      length-blocks 3 16 (take 48 (drop 19 ws)),
-      length-take z.rules rs,
-      length-take 64 (drop 67 ws),
+      length-append cs (ms ++ rs),
+      length-append ms rs,
+      table_few class_numbers class_at 3 class_few t.class_count t.classes,
+      table_few mode_numbers entry_in 11 mode_few t.mode_count t.modes,
+      table_few rule_numbers rule_of 5 rule_few t.rule_count t.rules,
     )
-
-calls_few : (n : ℕ) (ws : List ℕ) → length (listed binding_numbers (calls_in n ws)) ≤ 143361
-unfolding calls_in
-calls_few n ws = omega (arith, table_few binding_numbers call_at 140 kept_few n (blocks 18 1024 ws), length-take n (blocks 18 1024 ws), length-blocks 18 1024 ws)
 
 number_few : (n : ℕ) → length (bytes_of n) ≤ 3
 number_few n = go (side n 128) (side n 16384)
@@ -142,9 +153,41 @@ number_few n = go (side n 128) (side n 16384)
     go (inr h) (inl k) = omega (arith, ap length (bytes_two n h k))
     go (inr h) (inr k) = omega (arith, ap length (bytes_three n k))
 
-pub map_few : (tables kept : List ℕ) (n : ℕ) → length (in_bytes (map_numbers (tables_in tables) (calls_in n kept))) ≤ 431724
-unfolding in_bytes map_numbers
-map_few tables kept n =
-    let t = tables_numbers (tables_in tables) in
-    let c = listed binding_numbers (calls_in n kept) in
-    omega (arith, flat_few bytes_of 3 number_few (t ++ c), length-append t c, tables_few tables, calls_few n kept)
+-- a table of so many entries, and the calls' numbers
+module _ (t : TableWords) (n : ℕ) (ks : List CallWords) (hc : length t.classes ≤ 16) (hm : length t.modes ≤ 16) (hr : length t.rules ≤ 64) (hk : length ks ≤ 1024) where
+  by_calls : (most : ℕ) → length (listed binding_numbers (map call_in (take n ks))) ≤ most → length (write_map (tables_of t) (kept_in n ks)) ≤ 3 * (547 + most)
+  unfolding write_map in_bytes map_numbers kept_in
+  by_calls most each =
+      let ts = tables_numbers (tables_of t) in
+      let cs = listed binding_numbers (map call_in (take n ks)) in
+      let a : length ts ≤ 3 + 3 * 16 + 11 * 16 + 5 * 64
+      = tables_few t 16 16 64 (omega (arith, length-take t.class_count t.classes)) (omega (arith, length-take t.mode_count t.modes)) (omega (arith, length-take t.rule_count t.rules)) in
+      omega (arith, flat_few bytes_of 3 number_few (ts ++ cs), length-append ts cs)
+
+  -- whatever words the calls have
+  pub map_bounded : length (write_map (tables_of t) (kept_in n ks)) ≤ 812655
+  map_bounded = omega (arith, by_calls 270337 (omega (arith, table_few binding_numbers call_in 264 kept_few n ks, length-take n ks)))
+
+  calls_short : Sixteen ks → length (write_map (tables_of t) (kept_in n ks)) ≤ 431724
+  calls_short h = by_calls 143361 (omega (arith, calls_few (take n ks) (sixteen_take n ks h), length-take n ks))
+
+-- tables and a call whose arrays are no longer than their places, as the types have it: a value of the code is its own cut
+abbrev pub cut_tables : TableWords → TableWords
+cut_tables t = record { class_count = t.class_count; classes = take 16 t.classes; mode_count = t.mode_count; modes = take 16 t.modes; rule_count = t.rule_count; rules = take 64 t.rules }
+
+abbrev pub cut_call : CallWords → CallWords
+cut_call w = record { parts = take 16 w.parts; head = w.head; actions = w.actions }
+
+sixteen_cut : (ks : List CallWords) → Sixteen (map cut_call ks)
+sixteen_cut [] = tt
+sixteen_cut (w ∷ ws) = (omega (arith, length-take 16 w.parts), sixteen_cut ws)
+
+-- no map of any words is longer
+pub map_few : (t : TableWords) (n : ℕ) (ks : List CallWords) → length (write_map (tables_of (cut_tables t)) (kept_in n (take 1024 (map cut_call ks)))) ≤ 431724
+map_few t n ks =
+    calls_short (cut_tables t) n (take 1024 (map cut_call ks))
+    (omega (arith, length-take 16 t.classes))
+    (omega (arith, length-take 16 t.modes))
+    (omega (arith, length-take 64 t.rules))
+    (omega (arith, length-take 1024 (map cut_call ks)))
+    (sixteen_take 1024 (map cut_call ks) (sixteen_cut ks))

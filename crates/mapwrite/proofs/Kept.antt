@@ -1,90 +1,69 @@
--- The numbers of a kept call: kinds as they are tested, and a step's small numbers as they were kept.
-use Prim.Native.Nat.{ℕ, zero, suc, ◌+◌, ◌*◌, ◌<◌, min}
+-- A call that is read of its words has no more parts and actions than there is room for, so that all of them are there.
+use Prim.Native.Nat.{ℕ, zero, suc, ◌/◌, ◌%◌, ◌≤◌}
 use native.Mathlib.Omega.{arith}
-use mathlib.Core.Path.{◌≡◌, refl, sym, ap, ◌∙◌}
-use mathlib.Core.List.{List, [], ◌∷◌, ◌++◌}
-use lib.ListN.{length, take, get_or}
-use borrow.Author.Tests.{eq-eqb, ne_eqb}
-use Rattle.rules.specs.Values.{Part, Step}
-use Rattle.rules.specs.MapFile.{optional, optional_mark}
-use Rattle.rules.specs.Writing.{alone, listed, mode_number, mark_number, flag_number, repeat_numbers, event_numbers, part_numbers, step_numbers, binding_numbers}
-use Rattle.keyvalues.specs.View.{four_of, call_of}
-use Rattle.keytables.specs.View.{blocks}
-use Rattle.keptcalls.specs.declared.read.CallHead.{CallHead}
-use Rattle.keptcalls.specs.View.{parts_in, event_by, repeat_by, step_by, call_by, call_at, call_from}
-use Rattle.keptcalls.proofs.Reading.{length-parts, part_words, call_word}
+use mathlib.Core.Path.{◌≡◌, refl, ap, ◌∙◌}
+use mathlib.Core.Option.{Option, none, some}
+use mathlib.Core.List.{List, map}
+use lib.ListN.{length, take, length-take}
+use Rattle.std.specs.Prelude.{None, Some}
+use Rattle.rules.specs.Values.{Part, Step, Binding, Maps, Prefixes}
+use Rattle.keyvalues.specs.View.{four_of, no_part, part_of, whole_path, whole_step, call_of}
+use Rattle.keyvalues.proofs.Ranges.{fit_length}
+use Rattle.keptcalls.specs.declared.binding.Binding as calls
+use Rattle.keptcalls.specs.declared.binding.Binding.TheVariants.{Mapping, Prefix}
+use Rattle.keptcalls.specs.declared.words.CallWords.{CallWords}
+use Rattle.keptcalls.specs.View.{parts_in, step_at, call_by, call_in, binding_in}
+use Rattle.keptcalls.proofs.Reading.{length-parts}
+use Rattle.mapwrite.specs.View.{Fits}
 
--- ---- repeats and events
+-- ---- how many parts and actions a call has
 
-module _ (kind n : ℕ) where
-  pub repeat_once : kind ≡ 0 → 0 ∷ [] ≡ repeat_numbers (repeat_by kind n)
-  unfolding repeat_by repeat_numbers
-  repeat_once h = rw (eq-eqb kind 0 h)
+abbrev path_long : Binding → ℕ
+path_long (Maps mode path st) = length path
+path_long (Prefixes mode path st) = length path
 
-  pub repeat_min : (kind ≡ 0 → ⊥) → kind ≡ 1 → 1 ∷ n ∷ [] ≡ repeat_numbers (repeat_by kind n)
-  unfolding repeat_by repeat_numbers
-  repeat_min h k = rw (ne_eqb kind 0 h, eq-eqb kind 1 k)
+abbrev step_long : Step → ℕ
+step_long st = length st.actions
 
-  pub repeat_max : (kind ≡ 0 → ⊥) → (kind ≡ 1 → ⊥) → 2 ∷ n ∷ [] ≡ repeat_numbers (repeat_by kind n)
-  unfolding repeat_by repeat_numbers
-  repeat_max h k = rw (ne_eqb kind 0 h, ne_eqb kind 1 k)
+abbrev some_long : Option Step → ℕ
+some_long none = 0
+some_long (some st) = step_long st
 
-  pub event_key : kind ≡ 0 → 0 ∷ n ∷ [] ≡ event_numbers (event_by kind n)
-  unfolding event_by event_numbers
-  event_key h = rw (eq-eqb kind 0 h)
+abbrev actions_long : Binding → ℕ
+actions_long (Maps mode path st) = step_long st
+actions_long (Prefixes mode path st) = some_long st
 
-  pub event_class : (kind ≡ 0 → ⊥) → kind ≡ 1 → 1 ∷ n ∷ [] ≡ event_numbers (event_by kind n)
-  unfolding event_by event_numbers
-  event_class h k = rw (ne_eqb kind 0 h, eq-eqb kind 1 k)
+call_path : (kind mode : ℕ) (path : List Part) (st : Step) → path_long (call_of kind mode path st) ≡ length path
+unfolding call_of
+call_path zero mode path st = refl
+call_path (suc zero) mode path st = refl
+call_path (suc (suc k)) mode path st = refl
 
-  pub event_any : (kind ≡ 0 → ⊥) → (kind ≡ 1 → ⊥) → kind ≡ 2 → 2 ∷ [] ≡ event_numbers (event_by kind n)
-  unfolding event_by event_numbers
-  event_any h k l = rw (ne_eqb kind 0 h, ne_eqb kind 1 k, eq-eqb kind 2 l)
+call_actions : (kind mode : ℕ) (path : List Part) (st : Step) → step_long st ≤ 4 → actions_long (call_of kind mode path st) ≤ 4
+unfolding call_of
+call_actions zero mode path st h = h
+call_actions (suc zero) mode path st h = omega arith
+call_actions (suc (suc k)) mode path st h = h
 
-  pub event_fallthrough : (kind ≡ 0 → ⊥) → (kind ≡ 1 → ⊥) → (kind ≡ 2 → ⊥) → 3 ∷ [] ≡ event_numbers (event_by kind n)
-  unfolding event_by event_numbers
-  event_fallthrough h k l = rw (ne_eqb kind 0 h, ne_eqb kind 1 k, ne_eqb kind 2 l)
+at_most_four : (h w : ℕ) → step_long (step_at h w) ≤ 4
+unfolding step_at
+at_most_four h w = omega (arith, length-take (h / 2 % 8) (four_of w))
 
--- ---- the step
+-- ---- so many of a call that is read
 
-mode_again : (n : ℕ) → n ≡ mode_number (optional n)
-unfolding mode_number optional
-mode_again zero = refl
-mode_again (suc n) = refl
+parts_few : (n : ℕ) (ps : List ℕ) → length ps ≡ 16 → length (take n (parts_in ps)) ≤ 32
+parts_few n ps e = omega (arith, length-take n (parts_in ps), length-parts ps)
 
-mark_again : (n : ℕ) → n ≡ mark_number (optional_mark n)
-unfolding mark_number optional_mark
-mark_again zero = refl
-mark_again (suc n) = refl
-
-pub step_again : (c : CallHead) (w f : ℕ) → f ≡ flag_number c.flag
-    → f ∷ (listed alone (take c.count (four_of w)) ++ (c.next ∷ c.fallthrough ∷ c.mark ∷ [])) ≡ step_numbers (step_by c w)
-unfolding step_numbers
-step_again c w f e = rw (e, ← (mode_again c.next), ← (mode_again c.fallthrough), ← (mark_again c.mark))
-
--- ---- the call
-
-module _ (mode : ℕ) (path : List Part) (st : Step) where
-  pub call_bare : (kind k : ℕ) → k ≡ min kind 2 → kind ≡ 1 → k ∷ mode ∷ listed part_numbers path ≡ binding_numbers (call_of kind mode path st)
-  unfolding call_of binding_numbers
-  call_bare zero k e h = absurd (omega arith)
-  call_bare (suc zero) k e h = rw e
-  call_bare (suc (suc n)) k e h = absurd (omega arith)
-
-  pub call_whole : (kind k : ℕ) → k ≡ min kind 2 → (kind ≡ 1 → ⊥) → k ∷ mode ∷ (listed part_numbers path ++ step_numbers st) ≡ binding_numbers (call_of kind mode path st)
-  unfolding call_of binding_numbers
-  call_whole zero k e h = rw e
-  call_whole (suc zero) k e h = absurd (h refl)
-  call_whole (suc (suc n)) k e h = let f : k ≡ 2 = omega arith in rw f
-
--- what is read of a call is the call of its block
-module _ (ws : List ℕ) (all : length ws ≡ 18432) (i : ℕ) (h : i < 1024) (c : CallHead) (is : (ps : List ℕ) (w : ℕ) → call_from c ps w ≡ call_by ps (get_or ws (i * 18 + 16) 0) w) where
-  pub call_read : (w : ℕ) → w ≡ get_or ws (i * 18 + 17) 0 → call_from c (take 16 (get_or (blocks 18 1024 ws) i [])) w ≡ call_at (get_or (blocks 18 1024 ws) i [])
-  unfolding call_at
-  call_read w e = is (take 16 (get_or (blocks 18 1024 ws) i [])) w ∙ rw (call_word ws all i h 16 (omega arith), call_word ws all i h 17 (omega arith), ← e)
-
--- how many parts of a call count
-pub parts_count : (ws : List ℕ) → length ws ≡ 18432 → (i : ℕ) → i < 1024 → (count n : ℕ) → n ≡ min count 32 → n ≡ min count (length (parts_in (take 16 (get_or (blocks 18 1024 ws) i []))))
-parts_count ws all i h count n e =
-    let l : length (parts_in (take 16 (get_or (blocks 18 1024 ws) i []))) ≡ 32 = omega (arith, length-parts (take 16 (get_or (blocks 18 1024 ws) i [])), part_words ws all i h) in
-    e ∙ ap (min count) (sym l)
+pub fits : (b : calls.Binding) (w : CallWords) → length w.parts ≡ 16 → binding_in b ≡ call_in w → Fits b
+unfolding call_by
+fits (Mapping mode path step) w l e =
+    let p : length (whole_path path) ≤ 32 = omega (arith, ap path_long e ∙ call_path (w.head % 4) (w.head / 4 % 16) (take (w.head / 4 / 16 % 64) (parts_in w.parts)) (step_at (w.head / 4 / 16 / 64) w.actions), parts_few (w.head / 4 / 16 % 64) w.parts l) in
+    let a : length (whole_step step).actions ≤ 4 = omega (arith, ap actions_long e, call_actions (w.head % 4) (w.head / 4 % 16) (take (w.head / 4 / 16 % 64) (parts_in w.parts)) (step_at (w.head / 4 / 16 / 64) w.actions) (at_most_four (w.head / 4 / 16 / 64) w.actions)) in
+    (omega (arith, fit_length no_part path.count (map part_of path.parts)), omega (arith, fit_length 0 step.count step.actions))
+fits (Prefix mode path None) w l e =
+    let p : length (whole_path path) ≤ 32 = omega (arith, ap path_long e ∙ call_path (w.head % 4) (w.head / 4 % 16) (take (w.head / 4 / 16 % 64) (parts_in w.parts)) (step_at (w.head / 4 / 16 / 64) w.actions), parts_few (w.head / 4 / 16 % 64) w.parts l) in
+    (omega (arith, fit_length no_part path.count (map part_of path.parts)), tt)
+fits (Prefix mode path (Some step)) w l e =
+    let p : length (whole_path path) ≤ 32 = omega (arith, ap path_long e ∙ call_path (w.head % 4) (w.head / 4 % 16) (take (w.head / 4 / 16 % 64) (parts_in w.parts)) (step_at (w.head / 4 / 16 / 64) w.actions), parts_few (w.head / 4 / 16 % 64) w.parts l) in
+    let a : length (whole_step step).actions ≤ 4 = omega (arith, ap actions_long e, call_actions (w.head % 4) (w.head / 4 % 16) (take (w.head / 4 / 16 % 64) (parts_in w.parts)) (step_at (w.head / 4 / 16 / 64) w.actions) (at_most_four (w.head / 4 / 16 / 64) w.actions)) in
+    (omega (arith, fit_length no_part path.count (map part_of path.parts)), omega (arith, fit_length 0 step.count step.actions))

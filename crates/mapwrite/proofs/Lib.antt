@@ -1,7 +1,5 @@
--- Laws that belong to no one function: lists behind a count, the numbers of tables and of calls, how many they can be, and what is
--- sent.
+-- Laws that belong to no one function: lists behind a count, a call as it was kept, and how long a map file is.
 pub mod Lists
-pub mod Entries
 pub mod Kept
-pub mod Few
 pub mod Sent
+pub mod Few

@@ -1,1 +1,2 @@
--- The contracts cite the rules and the views of the crates below.
+-- What the code writes, in the values of the rules.
+pub mod View

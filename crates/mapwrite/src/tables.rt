@@ -1,111 +1,85 @@
 // The three tables, each a count and then its entries.
-ghost use Rattle.std.specs.Prelude.{◌≡◌, [], ◌∷◌, length};
-ghost use Rattle.rules.specs.Writing.{alone, listed, mode_number, mode_numbers, class_numbers, rule_numbers, tables_numbers};
-ghost use Rattle.keyvalues.specs.View.{opt_of, class_at, classes_of};
-ghost use Rattle.keytables.specs.View.{entry_of, rule_of, modes_of, rules_of, tables_in};
-ghost use Rattle.mapfile.specs.View.{page_of, Puts};
+ghost use Rattle.std.specs.Prelude.{◌≡◌, length};
+ghost use Rattle.rules.specs.Writing.{mode_numbers, class_numbers, rule_numbers, tables_numbers};
+ghost use Rattle.keyvalues.specs.View.{class_at};
+ghost use Rattle.keytables.specs.View.{entry_in, rule_of, tables_of};
+ghost use Rattle.mapparts.specs.View.{Puts};
 
-use crate::actions;
+use crate::list;
+use crate::list::Written;
 use keytables::rule::Rule;
-use keyvalues::number;
-use keyvalues::tables::TableWords;
-use mapfile::write::Pen;
+use keytables::tables::{ClassEntry, ModeEntry};
+use keyvalues::refusal::Refusal;
+use keyvalues::tables::{ModeWords, TableWords};
+use keyvalues::{node, number};
+use mapparts::writer::Writer;
 
-fn put_class(pen: Pen, out: &mut [u8], word: u64) -> Pen
-    ensures { Puts (class_numbers (class_at word)) (page_of pen out.old) (page_of result out.new) }
-{
-    let a = pen.put(out, number::low(word));
-    let b = a.put(out, number::low(word / 65536));
-    b.put(out, number::low(word / 65536 / 65536))
-}
+impl Written for ClassEntry {
+    type Kept = u64;
 
-fn put_classes(pen: Pen, out: &mut [u8], words: &[u64], count: u16) -> Pen
-    ensures { Puts (listed class_numbers (classes_of words.now count)) (page_of pen out.old) (page_of result out.new) }
-{
-    let n = number::least_of(count, words.len());
-    let mut p = pen.put(out, n);
-    let mut i = 0u16;
-    while i < n {
-        let word = number::word_at(words, i as usize);
-        p = put_class(p, out, word);
-        i = i + 1;
+    ghost numbers = { λ w. class_numbers (class_at w) };
+
+    #[tactic(auto, unfolding(rules::specs::Writing::class_numbers, keyvalues::specs::View::class_at))]
+    fn write_to(kept: &u64, writer: &mut Writer) -> Result<(), Refusal> {
+        writer.put(number::low(*kept))?;
+        writer.put(number::low(*kept / 65536))?;
+        writer.put(number::low(*kept / 65536 / 65536))?;
+        Ok(())
     }
-    p
 }
 
-// A mode that may be missing: 0 for none, and else one more than the mode, in a word as in a file.
-fn put_next(pen: Pen, out: &mut [u8], word: u64) -> Pen
-    ensures { Puts (alone (mode_number (opt_of word))) (page_of pen out.old) (page_of result out.new) }
-{
-    if word == 0 {
-        return pen.put(out, 0);
+impl Written for ModeEntry {
+    type Kept = ModeWords;
+
+    ghost numbers = { λ w. mode_numbers (entry_in w) };
+
+    fn write_to(kept: &ModeWords, writer: &mut Writer) -> Result<(), Refusal> {
+        let enter = number::actions_in(kept.enter);
+        let unmapped = number::actions_in(kept.unmapped);
+        let enter_count = number::bits3(kept.head);
+        let unmapped_count = number::bits3(kept.head / 8);
+        let next = node::unopt(kept.head / 64);
+        list::put_list::<u16>(&enter, enter_count, writer)?;
+        list::put_list::<u16>(&unmapped, unmapped_count, writer)?;
+        list::put_mode(next, writer)?;
+        Ok(())
     }
-    pen.put_after(out, number::low(word - 1))
 }
 
-fn put_mode(pen: Pen, out: &mut [u8], enter: u64, unmapped: u64, head: u64) -> Pen
-    ensures { Puts (mode_numbers (entry_of (enter ∷ unmapped ∷ head ∷ []))) (page_of pen out.old) (page_of result out.new) }
-{
-    let a = actions::put_actions(pen, out, enter, number::bits3(head));
-    let b = actions::put_actions(a, out, unmapped, number::bits3(head / 8));
-    put_next(b, out, head / 64)
-}
+impl Written for Rule {
+    type Kept = u64;
 
-// As many modes as the tables were given, with three words each.
-fn put_modes(pen: Pen, out: &mut [u8], words: &[u64], count: u16) -> Pen
-    ensures { Puts (listed mode_numbers (modes_of count words.now)) (page_of pen out.old) (page_of result out.new) }
-{
-    let n = number::least_of(count, TableWords::MODES as usize);
-    let mut p = pen.put(out, n);
-    let mut i = 0u16;
-    while i < n {
-        let at = (i as usize) * 3;
-        let enter = number::word_at(words, at);
-        let unmapped = number::word_at(words, at + 1);
-        let head = number::word_at(words, at + 2);
-        p = put_mode(p, out, enter, unmapped, head);
-        i = i + 1;
+    ghost numbers = { λ w. rule_numbers (rule_of w) };
+
+    #[tactic(auto, unfolding(rules::specs::Writing::rule_numbers))]
+    fn write_to(kept: &u64, writer: &mut Writer) -> Result<(), Refusal> {
+        let rule = Rule::unpack(*kept);
+        writer.put(rule.mode)?;
+        writer.put(rule.low)?;
+        writer.put(rule.high)?;
+        writer.put(rule.sequence)?;
+        writer.put(rule.status)?;
+        Ok(())
     }
-    p
 }
 
-fn put_rule(pen: Pen, out: &mut [u8], word: u64) -> Pen
-    ensures { Puts (rule_numbers (rule_of word)) (page_of pen out.old) (page_of result out.new) }
+// How many entries there is room for. An array of a struct of another crate shows how long it is where it is lent as an array.
+pub(crate) fn rooms(
+    classes: &[u64; TableWords::CLASSES as usize],
+    modes: &[ModeWords; TableWords::MODES as usize],
+    rules: &[u64; TableWords::RULES as usize],
+) -> usize
+    ensures { (length classes.now ≡ 16) × (length modes.now ≡ 16) × (length rules.now ≡ 64) }
 {
-    let rule = Rule::unpack(word);
-    let a = pen.put(out, rule.mode);
-    let b = a.put(out, rule.low);
-    let c = b.put(out, rule.high);
-    let d = c.put(out, rule.sequence);
-    d.put(out, rule.status)
+    classes.len() + modes.len() + rules.len()
 }
 
-fn put_rules(pen: Pen, out: &mut [u8], words: &[u64], count: u16) -> Pen
-    ensures { Puts (listed rule_numbers (rules_of count words.now)) (page_of pen out.old) (page_of result out.new) }
+pub(crate) fn put_tables(tables: &TableWords, writer: &mut Writer) -> Result<(), Refusal>
+    ensures same { (writer.new.bytes.ghost_name ≡ writer.old.bytes.ghost_name) × (length writer.new.bytes.now ≡ length writer.old.bytes.now) }
+    ensures puts { Puts (tables_numbers (tables_of tables.now)) (writer.old.at, writer.old.bytes.now) result (writer.new.at, writer.new.bytes.now) }
 {
-    let n = number::least_of(count, words.len());
-    let mut p = pen.put(out, n);
-    let mut i = 0u16;
-    while i < n {
-        let word = number::word_at(words, i as usize);
-        p = put_rule(p, out, word);
-        i = i + 1;
-    }
-    p
-}
-
-pub(crate) fn put_tables(pen: Pen, out: &mut [u8], words: &[u64; TableWords::WORDS]) -> Pen
-    requires { length words.now ≡ 131 }
-    ensures { Puts (tables_numbers (tables_in words.now)) (page_of pen out.old) (page_of result out.new) }
-{
-    let all = &words[..];
-    let classes = &all[TableWords::CLASSES_AT..TableWords::MODES_AT];
-    let modes = &all[TableWords::MODES_AT..TableWords::RULES_AT];
-    let rules = &all[TableWords::RULES_AT..TableWords::WORDS];
-    let class_count = number::low(all[TableWords::CLASS_COUNT_AT]);
-    let mode_count = number::low(all[TableWords::MODE_COUNT_AT]);
-    let rule_count = number::low(all[TableWords::RULE_COUNT_AT]);
-    let a = put_classes(pen, out, classes, class_count);
-    let b = put_modes(a, out, modes, mode_count);
-    put_rules(b, out, rules, rule_count)
+    list::put_list::<ClassEntry>(&tables.classes, tables.class_count, writer)?;
+    list::put_list::<ModeEntry>(&tables.modes, tables.mode_count, writer)?;
+    list::put_list::<Rule>(&tables.rules, tables.rule_count, writer)?;
+    Ok(())
 }

@@ -3,21 +3,22 @@
 use Prim.Native.Nat.{ℕ, ◌+◌, ◌-◌, ◌*◌, ◌/◌, ◌≤◌, ◌<◌}
 use native.Mathlib.Omega.{arith}
 use native.Mathlib.Nat.{add-zero}
-use mathlib.Core.Path.{◌≡◌, sym, ap, ◌∙◌, subst}
+use mathlib.Core.Path.{◌≡◌, refl, sym, ap, ◌∙◌}
 use mathlib.Core.Logic.{◌⊎◌, inl, inr}
 use mathlib.Core.List.{List, [], ◌∷◌, ◌++◌, append_assoc}
 use lib.ListN.{length, drop, get_or, length-append, length-drop}
 use lib.Seq.{get_or-drop, drop-drop}
+use Rattle.rules.specs.Basics.{accept, refuse}
 use Rattle.rules.specs.Values.{Pair, pair}
 use Rattle.rules.specs.Numbers.{bytes_of}
-use Rattle.rules.specs.Run.{pair_bytes, decimal, line_of, lines_of}
+use Rattle.rules.specs.Run.{pair_bytes, line_of, lines_of}
 use Rattle.rules.proofs.Numbers.{side, written_one}
-use Rattle.mapfile.specs.View.{bytes_of_pair}
-use Rattle.mapfile.proofs.Writing.{bytes_two, bytes_three}
+use Rattle.mapparts.specs.View.{Page, placed}
+use Rattle.mapparts.proofs.Writing.{bytes_two, bytes_three}
 use Rattle.playback.specs.declared.lines.Found.{Found}
 use Rattle.playback.specs.declared.lines.Line.{Line}
-use Rattle.playback.specs.View.{Put, Finds, Lines}
-use Rattle.playback.proofs.Putting.{put_none, put_then, decimal_short}
+use Rattle.playback.specs.View.{Finds, FindsPair, bytes_of_pair}
+use Rattle.playback.proofs.Putting.{put_none, put_more, put_stop}
 
 module _ (s : List ℕ) (at n : ℕ) (rest : List ℕ) (e : drop at s ≡ bytes_of n ++ rest) where
   -- the bytes from the place on, as they were written
@@ -93,15 +94,8 @@ module _ {s : List ℕ} {from : ℕ} {x y z : Found} (fx : Finds s from x) (fy :
         ∙ ap (λ c. pair p.action c z.value) count_found.0
         ∙ ap (λ m. pair p.action p.context.count m) mark_found.0
 
-  pub line_put : {out o₁ o₂ o₃ o₄ : List ℕ} {at b c d end : ℕ}
-      → Put (decimal 5 x.value) at out b o₁ → Put (0x20 ∷ decimal 5 y.value) b o₁ c o₂ → Put (0x20 ∷ decimal 5 z.value) c o₂ d o₃ → Put (0x0A ∷ []) d o₃ end o₄
-      → Lines s from at out (record { at = end; from = z.next }) o₄
-  unfolding line_of
-  line_put {out} {o₁} {o₂} {o₃} {o₄} {at} {b} {c} {d} {end} pa pc pm pe = record {
-    onward = omega (arith, fx.onward, fy.onward, fz.onward);
-    short = omega (arith, pa.place, pc.place, pm.place, pe.place, decimal_short 5 x.value, decimal_short 5 y.value, decimal_short 5 z.value);
-    lines = λ p rest e. ((mark_found p rest e).1, subst (λ p. Put (line_of p) at out end o₄) (pair_found p rest e) (put_then (put_then (put_then pa pc) pm) pe));
-  }
+  pub pair_put : FindsPair s from (record { action = x.value; count = y.value; mark = z.value; next = z.next })
+  pair_put = record { onward = omega (arith, fx.onward, fy.onward, fz.onward); finds = λ p rest e. (pair_found p rest e, (mark_found p rest e).1) }
 
 -- ---- pairs one after another
 
@@ -115,31 +109,42 @@ bytes_some n = go (side n 128) (side n 16384)
     go (inr l) (inr m) = omega (arith, ap length (bytes_three n m))
 
 -- from the place `from` on stand the pairs `rest`, and putting their lines now puts the lines of all
-pub record Left (s : List ℕ) (ps : List Pair) (start : ℕ) (out₀ : List ℕ) (from at : ℕ) (out : List ℕ) : Type 0 where
+pub record Left (s : List ℕ) (ps : List Pair) (start : Page) (from : ℕ) (now : Page) : Type 0 where
   pub rest : List Pair
   pub there : drop from s ≡ pair_bytes rest
-  pub whole : (to : ℕ) (out₁ : List ℕ) → Put (lines_of rest) at out to out₁ → Put (lines_of ps) start out₀ to out₁
+  pub whole : placed (lines_of rest) now ≡ placed (lines_of ps) start
 
-module _ (s : List ℕ) (ps : List Pair) (start : ℕ) (out₀ : List ℕ) where
-  pub left_all : s ≡ pair_bytes ps → Left s ps start out₀ 0 start out₀
-  left_all e = record { rest = ps; there = e; whole = λ to out₁ p. p }
+module _ (s : List ℕ) (ps : List Pair) (start : Page) where
+  pub left_all : s ≡ pair_bytes ps → Left s ps start 0 start
+  left_all e = record { rest = ps; there = e; whole = refl }
 
-  module _ (from at : ℕ) (out : List ℕ) (l : Left s ps start out₀ from at out) where
-    pub left_next : {r : Line} {out₁ : List ℕ} → from < length s → Lines s from at out r out₁ → Left s ps start out₀ r.from r.at out₁
+  module _ (from : ℕ) (now : Page) (l : Left s ps start from now) where
+    module _ {r : Line} (h : from < length s) (k : FindsPair s from r) where
+      pub left_next : (q : Page) → accept q ≡ placed (line_of (pair r.action r.count r.mark)) now → Left s ps start r.next q
+      unfolding pair_bytes lines_of
+      left_next q f = go l.rest l.there l.whole
+        where
+          go : (rest : List Pair) → drop from s ≡ pair_bytes rest → placed (lines_of rest) now ≡ placed (lines_of ps) start → Left s ps start r.next q
+          go [] e w = absurd (omega (arith, ap length e, length-drop from s))
+          go (p ∷ rest) e w =
+              let g = k.finds p (pair_bytes rest) e in
+              record { rest = rest; there = g.1; whole = put_more (line_of p) (lines_of rest) now q (f ∙ ap (λ p. placed (line_of p) now) g.0) ∙ w }
+
+      pub left_stop : (n : ℕ) → refuse n ≡ placed (line_of (pair r.action r.count r.mark)) now → refuse n ≡ placed (lines_of ps) start
+      unfolding pair_bytes lines_of
+      left_stop n f = go l.rest l.there l.whole
+        where
+          go : (rest : List Pair) → drop from s ≡ pair_bytes rest → placed (lines_of rest) now ≡ placed (lines_of ps) start → refuse n ≡ placed (lines_of ps) start
+          go [] e w = absurd (omega (arith, ap length e, length-drop from s))
+          go (p ∷ rest) e w =
+              let g = k.finds p (pair_bytes rest) e in
+              put_stop (line_of p) (lines_of rest) now n (f ∙ ap (λ p. placed (line_of p) now) g.0) ∙ w
+
+    pub left_none : length s ≤ from → now.0 ≤ length now.1 → accept now ≡ placed (lines_of ps) start
     unfolding pair_bytes lines_of
-    left_next {r} {out₁} h k = go l.rest l.there l.whole
+    left_none h n = go l.rest l.there l.whole
       where
-        go : (rest : List Pair) → drop from s ≡ pair_bytes rest → ((to : ℕ) (out₁ : List ℕ) → Put (lines_of rest) at out to out₁ → Put (lines_of ps) start out₀ to out₁) → Left s ps start out₀ r.from r.at out₁
-        go [] e w = absurd (omega (arith, ap length e, length-drop from s))
-        go (p ∷ rest) e w =
-            let f = k.lines p (pair_bytes rest) e in
-            record { rest = rest; there = f.0; whole = λ to out₂ q. w to out₂ (put_then f.1 q) }
-
-    pub left_none : length s ≤ from → Put (lines_of ps) start out₀ at out
-    unfolding pair_bytes lines_of
-    left_none h = go l.rest l.there l.whole
-      where
-        go : (rest : List Pair) → drop from s ≡ pair_bytes rest → ((to : ℕ) (out₁ : List ℕ) → Put (lines_of rest) at out to out₁ → Put (lines_of ps) start out₀ to out₁) → Put (lines_of ps) start out₀ at out
-        go [] e w = w at out (put_none at out)
+        go : (rest : List Pair) → drop from s ≡ pair_bytes rest → placed (lines_of rest) now ≡ placed (lines_of ps) start → accept now ≡ placed (lines_of ps) start
+        go [] e w = put_none now.0 now.1 n ∙ w
         go (p ∷ rest) e w =
             absurd (omega (arith, simp length-append at (ap length e), length-drop from s, bytes_some p.action))

@@ -12,8 +12,8 @@ use Rattle.rules.specs.Numbers.{bytes_of}
 use Rattle.rules.specs.Run.{pair_bytes, decimal, line_of, lines_of, heading, refusal, text_of, keyplay}
 use Rattle.rules.proofs.Numbers.{side, written_one}
 use Rattle.rules.proofs.Results.{accepts, refuses}
-use Rattle.mapfile.specs.View.{bytes_of_pair}
-use Rattle.mapfile.proofs.Writing.{bytes_two, bytes_three}
+use Rattle.mapparts.proofs.Writing.{bytes_two, bytes_three}
+use Rattle.playback.specs.View.{bytes_of_pair}
 use Rattle.playback.proofs.Putting.{decimal_step, decimal_short}
 use Rattle.playback.proofs.Texts.{Fitting, input_fits}
 

@@ -1,58 +1,75 @@
--- What is put behind what was put is put at once: the place is the sum of the lengths, and bytes laid behind bytes are laid
--- at once. Where they do not all fit, nothing is told of the bytes. So a text that was put from the front on, or zeros where
--- it did not fit, is what it comes to in lent bytes.
+-- What is put behind what was put is put at once, and what does not fit is refused however it is cut. So a text that was put from
+-- the front on, or zeros where it did not fit, is what it comes to in lent bytes.
 use Rattle.std.specs.Prelude.{if◌then◌else◌}
 use Prim.Native.Nat.{ℕ, zero, suc, ◌+◌, ◌-◌, ◌/◌, ◌%◌, ◌≤◌, ◌<◌}
 use native.Mathlib.Omega.{arith}
 use native.Mathlib.Nat.{add-zero}
-use native.Mathlib.Numerals.{add-one, sub-one}
-use mathlib.Core.Path.{◌≡◌, refl, sym, ap, ap₂, ◌∙◌, subst}
+use native.Mathlib.Numerals.{sub-one}
+use mathlib.Core.Path.{◌≡◌, refl, sym, ap, ◌∙◌, subst}
+use mathlib.Core.Logic.{◌⊎◌, inl, inr}
 use mathlib.Core.List.{List, [], ◌∷◌, ◌++◌, append-nil}
 use mathlib.Core.Bool.{Bool, true, false}
 use lib.Dec.{ltb, leb}
-use lib.ListN.{length, take, drop, set, get_or, length-append, length-set, take-append-drop, replicate}
-use lib.Seq.{sets-eq, take-suc}
-use borrow.Author.Tests.{ltb-false, lt-ltb, le-ltb, leb-true, le-leb, lt-leb}
+use lib.ListN.{length, take, drop, length-append, take-append-drop, replicate}
+use borrow.Author.Tests.{ltb-false, leb-true, lt-ltb, le-ltb, le-leb, lt-leb}
+use Rattle.rules.specs.Basics.{Result, accept, refuse, ◌>>=◌}
 use Rattle.rules.specs.Run.{decimal}
-use Rattle.mapfile.specs.View.{laid}
-use Rattle.mapfile.proofs.Writing.{laid_laid}
-use Rattle.playback.specs.View.{Put, printed}
+use Rattle.rules.proofs.Numbers.{side}
+use Rattle.mapparts.specs.View.{laid, Page, placed}
+use Rattle.mapparts.proofs.Writing.{fits, too_long, length-laid, laid_laid}
+use Rattle.playback.specs.View.{printed}
 
-pub put_none : (at : ℕ) (out : List ℕ) → Put [] at out at out
+-- ---- one behind another
+
+placed_append : (xs ys : List ℕ) (at : ℕ) (out : List ℕ) → (placed xs (at, out) >>= placed ys) ≡ placed (xs ++ ys) (at, out)
+placed_append xs ys at out = go (side (length out) (at + length xs)) (side (length out) (at + length (xs ++ ys)))
+  where
+    long : length (xs ++ ys) ≡ length xs + length ys
+    long = length-append xs ys
+
+    go : (length out < at + length xs) ⊎ (at + length xs ≤ length out) → (length out < at + length (xs ++ ys)) ⊎ (at + length (xs ++ ys) ≤ length out) → (placed xs (at, out) >>= placed ys) ≡ placed (xs ++ ys) (at, out)
+    go (inl h) k = ap (λ r. r >>= placed ys) (sym (too_long xs at out h)) ∙ too_long (xs ++ ys) at out (omega (arith, long))
+    go (inr h) (inl k) = ap (λ r. r >>= placed ys) (sym (fits xs at out h)) ∙ sym (too_long ys (at + length xs) (laid at xs out) (omega (arith, long, length-laid at xs out h))) ∙ too_long (xs ++ ys) at out k
+    go (inr h) (inr k) =
+        let e : at + length xs + length ys ≡ at + length (xs ++ ys) = omega (arith, long) in
+        ap (λ r. r >>= placed ys) (sym (fits xs at out h)) ∙ sym (fits ys (at + length xs) (laid at xs out) (omega (arith, long, length-laid at xs out h))) ∙ rw (e, laid_laid at xs ys out (omega (arith, long))) (fits (xs ++ ys) at out k)
+
+module _ (xs ys : List ℕ) (p : Page) where
+  pub put_more : (q : Page) → accept q ≡ placed xs p → placed ys q ≡ placed (xs ++ ys) p
+  put_more q e = ap (λ r. r >>= placed ys) e ∙ placed_append xs ys p.0 p.1
+
+  pub put_stop : (n : ℕ) → refuse n ≡ placed xs p → refuse n ≡ placed (xs ++ ys) p
+  put_stop n e = ap (λ r. r >>= placed ys) e ∙ placed_append xs ys p.0 p.1
+
+pub put_none : (at : ℕ) (out : List ℕ) → at ≤ length out → accept (at, out) ≡ placed [] (at, out)
 unfolding laid
-put_none at out = record {
-  place = sym (add-zero at);
-  long = refl;
-  bytes = λ h. sym (ap (λ n. take at out ++ [] ++ drop n out) (add-zero at) ∙ ap (λ l. l ++ drop at out) (append-nil (take at out)) ∙ take-append-drop at out);
-}
+put_none at out h =
+    let e : at + 0 ≡ at = add-zero at in
+    let k : at + length {A = ℕ} [] ≤ length out = omega arith in
+    let same : laid at [] out ≡ out = ap (λ n. take at out ++ [] ++ drop n out) e ∙ ap (λ l. l ++ drop at out) (append-nil (take at out)) ∙ take-append-drop at out in
+    ap (λ (q : Page). accept q) (ap (λ (n : ℕ). (n, out)) (sym e) ∙ ap (λ (l : List ℕ). (at + 0, l)) (sym same)) ∙ fits [] at out k
 
-pub put_then : {xs ys out out₁ out₂ : List ℕ} {a b c : ℕ} → Put xs a out b out₁ → Put ys b out₁ c out₂ → Put (xs ++ ys) a out c out₂
-put_then {xs} {ys} {out} {out₁} {out₂} {a} {b} {c} p q =
-    let l = length-append xs ys in
-    record {
-      place = omega (arith, p.place, q.place);
-      long = q.long ∙ p.long;
-      bytes = λ h.
-          q.bytes (omega (arith, p.place, p.long))
-          ∙ ap (λ n. laid n ys out₁) p.place
-          ∙ ap (laid (a + length xs) ys) (p.bytes (omega arith))
-          ∙ laid_laid a xs ys out (omega arith);
-    }
+module _ (bs : List ℕ) (at : ℕ) (out : List ℕ) where
+  -- either the bytes fit and are laid, or they are refused
+  placed_one : (placed bs (at, out) ≡ refuse 10) ⊎ ((at + length bs ≤ length out) × (placed bs (at, out) ≡ accept (at + length bs, laid at bs out)))
+  placed_one = go (side (length out) (at + length bs))
+    where
+      go : (length out < at + length bs) ⊎ (at + length bs ≤ length out) → (placed bs (at, out) ≡ refuse 10) ⊎ ((at + length bs ≤ length out) × (placed bs (at, out) ≡ accept (at + length bs, laid at bs out)))
+      go (inl h) = inl (sym (too_long bs at out h))
+      go (inr h) = inr (h, sym (fits bs at out h))
 
--- ---- a byte
+  pub put_within : (q : Page) → accept q ≡ placed bs (at, out) → q.0 ≤ length q.1
+  put_within q e = go placed_one
+    where
+      page_in : Page → Result Page → Page
+      page_in d (accept a) = a
+      page_in d (refuse n) = d
 
-module _ (at v : ℕ) (out : List ℕ) where
-  pub put_stored : at < length out → Put (v ∷ []) at out (at + 1) (set out at v)
-  unfolding laid
-  put_stored h = record { place = refl; long = length-set out at v; bytes = λ f. sets-eq (v ∷ []) out at f }
-
-  pub put_past : length out ≤ at → Put (v ∷ []) at out (at + 1) out
-  put_past h = record { place = refl; long = refl; bytes = λ f. absurd (omega arith) }
-
--- one more of many
-pub put_next : {out out₁ out₂ : List ℕ} {a b c : ℕ} (bs : List ℕ) (i : ℕ) → i < length bs
-    → Put (take i bs) a out b out₁ → Put (get_or bs i 0 ∷ []) b out₁ c out₂ → Put (take (i + 1) bs) a out c out₂
-put_next {out} {out₁} {out₂} {a} {b} {c} bs i h p q = subst (λ l. Put l a out c out₂) (sym (ap (λ k. take k bs) (add-one i) ∙ take-suc bs i 0 h)) (put_then p q)
+      go : (placed bs (at, out) ≡ refuse 10) ⊎ ((at + length bs ≤ length out) × (placed bs (at, out) ≡ accept (at + length bs, laid at bs out))) → q.0 ≤ length q.1
+      go (inl k) = let f : ◌≡◌ {A = Result Page} (accept q) (refuse 10) = e ∙ k in absurd (cc)
+      go (inr (h, k)) =
+          let f : q ≡ (at + length bs, laid at bs out) = ap (page_in q) (e ∙ k) in
+          subst (λ (q : Page). q.0 ≤ length q.1) (sym f) (omega (arith, length-laid at bs out h))
 
 -- ---- digits
 
@@ -87,31 +104,40 @@ module _ (most n : ℕ) (here : most ≡ 0 → ⊥) where
       go zero here = absurd (here refl)
       go (suc k) here = rw (sub-one (suc k), le-ltb n 10 h)
 
-pub put_zero : {most : ℕ} (n at : ℕ) (out : List ℕ) → most ≡ 0 → Put (decimal most n) at out at out
+-- the only digit that there may be
+pub last_digit : (most n : ℕ) → most ≡ 1 → decimal most n ≡ (48 + n % 10) ∷ []
 unfolding decimal
-put_zero {most} n at out e = subst (λ k. Put (decimal k n) at out at out) (sym e) (put_none at out)
-
-module _ (most n : ℕ) (here : most ≡ 0 → ⊥) {out out₁ : List ℕ} {a b : ℕ} where
-  pub put_last : n < 10 → Put ((48 + n % 10) ∷ []) a out b out₁ → Put (decimal most n) a out b out₁
-  put_last h p = subst (λ l. Put l a out b out₁) (sym (one_digit most n here h)) p
-
-  pub put_digit : {out₂ : List ℕ} {c : ℕ} → 10 ≤ n → Put (decimal (most - 1) (n / 10)) a out b out₁ → Put ((48 + n % 10) ∷ []) b out₁ c out₂ → Put (decimal most n) a out c out₂
-  put_digit {out₂} {c} h p q = subst (λ l. Put l a out c out₂) (sym (more_digits most n here h)) (put_then p q)
+last_digit most n e = subst (λ k. decimal k n ≡ (48 + n % 10) ∷ []) (sym e) (go (ltb n 10))
+  where
+    go : (t : Bool) → (if t then [] else decimal 0 (n / 10)) ++ ((48 + n % 10) ∷ []) ≡ (48 + n % 10) ∷ []
+    go true = refl
+    go false = refl
 
 -- ---- a text in lent bytes
 
 module _ (text lent : List ℕ) where
-  pub put_fits : (n : ℕ) (out : List ℕ) → Put text 0 lent n out → n ≤ length out → ◌≡◌ {A = ℕ × List ℕ} (n, out) (printed lent text)
+  pub printed_fits : (n : ℕ) (out : List ℕ) → accept (n, out) ≡ placed text (0, lent) → ◌≡◌ {A = ℕ × List ℕ} (n, out) (printed lent text)
   unfolding laid
-  put_fits n out p h =
-      let k : length text ≤ length lent = omega (arith, p.place, p.long) in
-      let z : 0 + length text ≤ length lent = omega arith in
-      let m : n ≡ length text = omega (arith, p.place) in
-      let f : 0 + length text ≡ length text = omega arith in
-      rw (le-leb (length text) (length lent) k) (ap₂ (λ (n : ℕ) (o : List ℕ). (n, o)) m (p.bytes z ∙ ap (λ n. text ++ drop n lent) f))
+  printed_fits n out e = go (placed_one text 0 lent)
+    where
+      page_in : Page → Result Page → Page
+      page_in d (accept a) = a
+      page_in d (refuse n) = d
 
-  pub put_over : (n : ℕ) (out zeros : List ℕ) → Put text 0 lent n out → length out < n → zeros ≡ replicate (length out) 0 → ◌≡◌ {A = ℕ × List ℕ} (0, zeros) (printed lent text)
-  put_over n out zeros p h e = rw (lt-leb (length text) (length lent) (omega (arith, p.place, p.long))) (ap (λ (o : List ℕ). (0, o)) (e ∙ ap (λ n. replicate n 0) p.long))
+      go : (placed text (0, lent) ≡ refuse 10) ⊎ ((0 + length text ≤ length lent) × (placed text (0, lent) ≡ accept (0 + length text, laid 0 text lent))) → ◌≡◌ {A = ℕ × List ℕ} (n, out) (printed lent text)
+      go (inl k) = let f : ◌≡◌ {A = Result Page} (accept (n, out)) (refuse 10) = e ∙ k in absurd (cc)
+      go (inr (h, k)) =
+          let m : length text ≤ length lent = omega arith in
+          let z : 0 + length text ≡ length text = omega arith in
+          rw (le-leb (length text) (length lent) m) (ap (page_in (n, out)) (e ∙ k) ∙ ap (λ (i : ℕ). (i, text ++ drop i lent)) z)
+
+  pub printed_over : (k : ℕ) (out : List ℕ) → refuse k ≡ placed text (0, lent) → length out ≡ length lent → (0, replicate (length out) 0) ≡ printed lent text
+  printed_over k out e same = go (placed_one text 0 lent) (side (length lent) (length text))
+    where
+      go : (placed text (0, lent) ≡ refuse 10) ⊎ ((0 + length text ≤ length lent) × (placed text (0, lent) ≡ accept (0 + length text, laid 0 text lent))) → (length lent < length text) ⊎ (length text ≤ length lent) → (0, replicate (length out) 0) ≡ printed lent text
+      go (inr (h, k₂)) m = let f : ◌≡◌ {A = Result Page} (refuse k) (accept (0 + length text, laid 0 text lent)) = e ∙ k₂ in absurd (cc)
+      go (inl k₂) (inl m) = rw (lt-leb (length text) (length lent) m) (ap (λ (i : ℕ). (0, replicate i 0)) same)
+      go (inl k₂) (inr m) = let f : ◌≡◌ {A = Result Page} (refuse 10) (accept (0 + length text, laid 0 text lent)) = sym k₂ ∙ sym (fits text 0 lent (omega arith)) in absurd (cc)
 
   pub printed_within : (n : ℕ) (out : List ℕ) → ◌≡◌ {A = ℕ × List ℕ} (n, out) (printed lent text) → n ≤ length lent
   printed_within n out e = go (leb (length text) (length lent)) refl e

@@ -1,15 +1,13 @@
 -- What a run answers tells what it came to: no refusal is 0, so the remainder by 32 tells it from pairs, whose bytes count 32
 -- each and fit the output. And the parts of the input are those that the definition takes.
-use Prim.Native.Nat.{ℕ, ◌+◌, ◌-◌, ◌/◌, ◌%◌, ◌≤◌, ◌<◌, min}
+use Prim.Native.Nat.{ℕ, ◌/◌, ◌%◌, ◌≤◌, ◌<◌}
 use native.Mathlib.Omega.{arith}
-use native.Mathlib.Nat.{min-eq_left, min-eq_right}
 use mathlib.Core.Path.{◌≡◌, refl, sym, ap, ◌∙◌, subst}
 use mathlib.Core.Bool.{Bool, true}
-use mathlib.Core.Logic.{◌⊎◌, inl, inr}
 use mathlib.Core.List.{List, [], ◌∷◌, ◌++◌}
 use lib.Dec.{leb, ltb, leb→le, ltb→lt}
-use lib.ListN.{length, take, drop, length-drop, drop_of_length-le}
-use lib.Seq.{take_at, take_all, drop-drop}
+use lib.ListN.{length, take, drop}
+use lib.Seq.{take_at}
 use borrow.Author.Tests.{le-leb, lt-leb}
 use Rattle.rules.specs.Basics.{Result, accept, refuse, ◌>>=◌, unless}
 use Rattle.rules.specs.Values.{Pair}
@@ -17,13 +15,10 @@ use Rattle.rules.specs.Numbers.{number}
 use Rattle.rules.specs.MapFile.{read_map}
 use Rattle.rules.specs.Calls.{Machine, graph_kind, key_call}
 use Rattle.rules.specs.Run.{read_keys, pair_bytes, emptied, play_keys, run, code_of, output_of, answered, play_input, lines_of, heading, refusal, text_of, keyplay}
-use Rattle.rules.proofs.Numbers.{side}
 use Rattle.rules.proofs.Results.{Always, accepts, refuses, Whatever, always_bind, unless_so}
 use Rattle.rules.proofs.Refusals.{run_always}
 use Rattle.rules.proofs.Examples.{refusal_of}
 use Rattle.rules.proofs.Facts.{length_of, code_splits}
-use Rattle.playback.specs.View.{Put}
-use Rattle.playback.proofs.Putting.{put_then}
 
 -- ---- the pairs of a run fit
 
@@ -115,9 +110,10 @@ module _ (map keys lent out : List ℕ) (budget r : ℕ) (wide : length lent ≡
       }
       go (refuse n) k = absurd (omega (arith, positive n k, number_of (refuse n) k))
 
-  pub pairs_put : (ran : Ran) {text o₁ o₂ : List ℕ} {a b : ℕ} → Put heading 0 text a o₁ → Put (lines_of ran.pairs) a o₁ b o₂ → Put (text_of X) 0 text b o₂
+  -- the lines behind the heading are the text
+  pub pairs_put : (ran : Ran) → heading ++ lines_of ran.pairs ≡ text_of X
   unfolding text_of
-  pairs_put ran {text} {o₁} {o₂} {a} {b} p q = subst (λ x. Put (text_of x) 0 text b o₂) (sym ran.came) (put_then p q)
+  pairs_put ran = ap text_of (sym ran.came)
 
 -- ---- the parts of the input
 
@@ -126,32 +122,18 @@ module _ (input : List ℕ) where
   abbrev after : Result (ℕ × List ℕ) → Result (List Pair)
   after x = x >>= λ r. unless (leb r.0 (length r.1)) 9 (run (take r.0 r.1) (drop r.0 r.1) 1000 65536)
 
-  pub play_bad : refuse 9 ≡ number input → refusal 9 ≡ text_of (play_input input)
+  pub play_bad : (n : ℕ) → refuse n ≡ number input → refusal n ≡ text_of (play_input input)
   unfolding play_input text_of
-  play_bad e = ap (λ x. text_of (after x)) e
+  play_bad n e = ap (λ x. text_of (after x)) e
 
-  module _ (v next start : ℕ) (e : accept (v, drop next input) ≡ number input) (h : start ≡ min next (length input)) where
-    left : drop next input ≡ drop start input
-    left = go (side next (length input))
-      where
-        go : (next < length input) ⊎ (length input ≤ next) → drop next input ≡ drop start input
-        go (inl l) = let k : next ≤ length input = omega arith in ap (λ n. drop n input) (sym (h ∙ min-eq_left k))
-        go (inr l) = let k : length input ≤ start = omega (arith, h, min-eq_right l) in drop_of_length-le input l ∙ sym (drop_of_length-le input k)
-
-    taken : number input ≡ accept (v, drop start input)
-    taken = sym e ∙ ap (λ l. accept (v, l)) left
-
-    pub play_short : length input - start < v → refusal 9 ≡ text_of (play_input input)
+  module _ (v : ℕ) (rest : List ℕ) (e : accept (v, rest) ≡ number input) where
+    pub play_short : length rest < v → refusal 9 ≡ text_of (play_input input)
     unfolding play_input text_of
-    play_short k = sym (ap (λ x. text_of (after x)) taken ∙ rw (lt-leb v (length (drop start input)) (omega (arith, length-drop start input))))
+    play_short k = sym (sym (ap (λ x. text_of (after x)) e) ∙ rw (lt-leb v (length rest) k))
 
-    -- the rest of the bytes, as a slice to their end
-    pub play_run : v ≤ length input - start → text_of (run (take (start + v - start) (drop start input)) (take (length input - (start + v)) (drop (start + v) input)) 1000 65536) ≡ text_of (play_input input)
+    pub play_run : v ≤ length rest → {map keys : List ℕ} → map ≡ take v rest → keys ≡ drop v rest → text_of (run map keys 1000 65536) ≡ text_of (play_input input)
     unfolding play_input text_of
-    play_run k =
-        let n : start + v - start ≡ v = omega arith in
-        let l : length (drop (start + v) input) ≤ length input - (start + v) = omega (arith, length-drop (start + v) input) in
-        sym (ap (λ x. text_of (after x)) taken ∙ rw (le-leb v (length (drop start input)) (omega (arith, length-drop start input)), n, drop-drop v start input, take_all (length input - (start + v)) (drop (start + v) input) l))
+    play_run k {map} {keys} m l = rw (m, l) (sym (sym (ap (λ x. text_of (after x)) e) ∙ rw (le-leb v (length rest) k)))
 
   pub text_long : 65536 < length input → refusal 9 ≡ keyplay input
   unfolding keyplay text_of

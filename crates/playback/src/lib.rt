@@ -6,7 +6,7 @@ mod lines;
 mod put;
 mod text;
 
-pub use input::read_full;
+pub use input::read_input;
 use std::io;
 use std::io::Write;
 pub use text::{MOST_TEXT, keyplay};

@@ -1,10 +1,12 @@
 // The lines of the pairs that a run wrote.
 ghost use Rattle.std.specs.Prelude.{◌≡◌, List, ◌∷◌, ◌≤◌, ◌<◌, length, get_or};
-ghost use Rattle.rules.specs.Values.{Pair};
-ghost use Rattle.rules.specs.Run.{pair_bytes, decimal, lines_of};
-ghost use Rattle.playback.specs.View.{Put, Finds, Lines};
+ghost use Rattle.rules.specs.Values.{Pair, pair};
+ghost use Rattle.rules.specs.Run.{pair_bytes, decimal, line_of, lines_of};
+ghost use Rattle.playback.specs.View.{Put, Finds, FindsPair};
 
 use crate::put;
+use keyvalues::refusal::Refusal;
+use mapparts::writer::Writer;
 
 // A number, and the place after it.
 #[derive(Clone, Copy)]
@@ -13,21 +15,23 @@ struct Found {
     next: usize,
 }
 
-// The places after a pair: in the text, and in the bytes of the pairs.
+// The numbers of a pair, and the place after it.
 #[derive(Clone, Copy)]
 struct Line {
-    at: usize,
-    from: usize,
+    action: u32,
+    count: u32,
+    mark: u32,
+    next: usize,
 }
 
 // A byte, or 0 past the end.
 fn byte_at(s: &[u8], at: usize) -> u32
     ensures { (result ≡ get_or s.now at 0) × (result < 256) }
 {
-    if at < s.len() {
-        return s[at] as u32;
+    match s.get(at) {
+        Some(byte) => *byte as u32,
+        None => 0,
     }
-    0
 }
 
 // A number that the run wrote, so nothing is tested, not even that it fits 16 bits, which the rules do not say of a pair:
@@ -57,44 +61,59 @@ fn number_at(s: &[u8], at: usize) -> Found
     }
 }
 
-// A space, and a number behind it.
-fn put_column(text: &mut [u8], at: usize, value: u32) -> usize
-    requires { at < 1999990 }
-    ensures { Put (0x20 ∷ decimal 5 value) at text.old result text.new }
-{
-    let next = put::put_byte(text, at, b' ');
-    put::put_decimal(text, next, value, 5)
-}
-
-// The line of the pair at the place `from`.
-fn put_line(text: &mut [u8], at: usize, s: &[u8], from: usize) -> Line
-    requires { (at < 1999900) × (from < 1999900) }
-    ensures { Lines s.now from at text.old result text.new }
+// The pair at the place.
+#[tactic(auto, using(crate::proofs::Finding::pair_put))]
+fn pair_at(s: &[u8], from: usize) -> Line
+    requires { from < 1999900 }
+    ensures { FindsPair s.now from result }
 {
     let action = number_at(s, from);
     let count = number_at(s, action.next);
     let mark = number_at(s, count.next);
-    let b = put::put_decimal(text, at, action.value, 5);
-    let c = put_column(text, b, count.value);
-    let d = put_column(text, c, mark.value);
-    let end = put::put_byte(text, d, b'\n');
     Line {
-        at: end,
-        from: mark.next,
+        action: action.value,
+        count: count.value,
+        mark: mark.value,
+        next: mark.next,
     }
 }
 
-// A line for each pair, from the place `start` on.
-pub(crate) fn put_lines(text: &mut [u8], start: usize, s: &[u8]) -> usize
-    requires { (start ≤ 18) × (length s.now ≤ 65536) }
-    ensures { (ps : List Pair) → s.now ≡ pair_bytes ps → Put (lines_of ps) start text.old result text.new }
+// A space, and a number behind it.
+#[tactic(auto, using(crate::proofs::Lined::column_stop, crate::proofs::Lined::column_more))]
+fn put_column(writer: &mut Writer, value: u32) -> Result<(), Refusal>
+    ensures same { (writer.new.bytes.ghost_name ≡ writer.old.bytes.ghost_name) × (length writer.new.bytes.now ≡ length writer.old.bytes.now) }
+    ensures puts { Put (0x20 ∷ decimal 5 value) (writer.old.at, writer.old.bytes.now) result (writer.new.at, writer.new.bytes.now) }
 {
-    let mut at = start;
+    writer.put_bytes(b" ")?;
+    put::put_decimal(writer, value, 5)?;
+    Ok(())
+}
+
+#[tactic(auto, using(crate::proofs::Lined::line_stop, crate::proofs::Lined::line_stop_second, crate::proofs::Lined::line_stop_third, crate::proofs::Lined::line_stop_last, crate::proofs::Lined::line_put))]
+fn put_line(writer: &mut Writer, line: Line) -> Result<(), Refusal>
+    ensures same { (writer.new.bytes.ghost_name ≡ writer.old.bytes.ghost_name) × (length writer.new.bytes.now ≡ length writer.old.bytes.now) }
+    ensures puts { Put (line_of (pair line.action line.count line.mark)) (writer.old.at, writer.old.bytes.now) result (writer.new.at, writer.new.bytes.now) }
+{
+    put::put_decimal(writer, line.action, 5)?;
+    put_column(writer, line.count)?;
+    put_column(writer, line.mark)?;
+    writer.put_bytes(b"\n")?;
+    Ok(())
+}
+
+// A line for each pair.
+#[tactic(auto, using(crate::proofs::Finding::left_all, crate::proofs::Finding::left_next, crate::proofs::Finding::left_stop, crate::proofs::Finding::left_none, crate::proofs::Putting::put_within))]
+pub(crate) fn put_lines(writer: &mut Writer, s: &[u8]) -> Result<(), Refusal>
+    requires size { length s.now ≤ 65536 }
+    requires within { writer.old.at ≤ length writer.old.bytes.now }
+    ensures same { (writer.new.bytes.ghost_name ≡ writer.old.bytes.ghost_name) × (length writer.new.bytes.now ≡ length writer.old.bytes.now) }
+    ensures puts { (ps : List Pair) → s.now ≡ pair_bytes ps → Put (lines_of ps) (writer.old.at, writer.old.bytes.now) result (writer.new.at, writer.new.bytes.now) }
+{
     let mut from = 0usize;
     while from < s.len() {
-        let line = put_line(text, at, s, from);
-        at = line.at;
-        from = line.from;
+        let line = pair_at(s, from);
+        put_line(writer, line)?;
+        from = line.next;
     }
-    at
+    Ok(())
 }

@@ -1,47 +1,28 @@
-// Bytes put one behind another. What does not fit is counted and not stored, so a text is made in one pass, and whoever lent
-// the bytes looks at the end whether it fitted. A place stays below two million, which is far past the longest text.
-ghost use Rattle.std.specs.Prelude.{◌+◌, ◌≤◌, ◌<◌, [], ◌∷◌, length};
+// A number in decimal.
+ghost use Rattle.std.specs.Prelude.{◌≡◌, ◌<◌, length};
 ghost use Rattle.rules.specs.Run.{decimal};
 ghost use Rattle.playback.specs.View.{Put};
 
-// Answers the place after the byte.
-pub(crate) fn put_byte(text: &mut [u8], at: usize, byte: u8) -> usize
-    requires { at < 2000000 }
-    ensures { Put (byte ∷ []) at text.old result text.new }
-{
-    if at < text.len() {
-        text[at] = byte;
-        return at + 1;
-    }
-    at + 1
-}
+use keyvalues::refusal::Refusal;
+use mapparts::writer::Writer;
 
-// Answers the place after the bytes, as the functions below do after what they put.
-pub(crate) fn put_bytes(text: &mut [u8], from: usize, bytes: &[u8]) -> usize
-    requires { from + length bytes.now ≤ 2000000 }
-    ensures { Put bytes.now from text.old result text.new }
+// At most `most` digits, the last ones.
+#[tactic(auto, using(crate::proofs::Putting::put_more, crate::proofs::Putting::put_stop, crate::proofs::Putting::one_digit, crate::proofs::Putting::last_digit, crate::proofs::Putting::more_digits))]
+pub(crate) fn put_decimal(writer: &mut Writer, value: u32, most: u8) -> Result<(), Refusal>
+    requires { 0 < most }
+    ensures same { (writer.new.bytes.ghost_name ≡ writer.old.bytes.ghost_name) × (length writer.new.bytes.now ≡ length writer.old.bytes.now) }
+    ensures puts { Put (decimal most value) (writer.old.at, writer.old.bytes.now) result (writer.new.at, writer.new.bytes.now) }
 {
-    let mut at = from;
-    let mut i = 0usize;
-    while i < bytes.len() {
-        at = put_byte(text, at, bytes[i]);
-        i = i + 1;
-    }
-    at
-}
-
-// A number in decimal, of at most `most` digits.
-pub(crate) fn put_decimal(text: &mut [u8], at: usize, value: u32, most: u8) -> usize
-    requires { at + most ≤ 2000000 }
-    ensures { Put (decimal most value) at text.old result text.new }
-{
-    if most == 0 {
-        return at;
-    }
     let digit = 48 + ((value % 10) as u8);
     if value < 10 {
-        return put_byte(text, at, digit);
+        writer.put_bytes(&[digit])?;
+        return Ok(());
     }
-    let last = put_decimal(text, at, value / 10, most - 1);
-    put_byte(text, last, digit)
+    if most == 1 {
+        writer.put_bytes(&[digit])?;
+        return Ok(());
+    }
+    put_decimal(writer, value / 10, most - 1)?;
+    writer.put_bytes(&[digit])?;
+    Ok(())
 }

@@ -1,12 +1,15 @@
 // The text that an input comes to: the heading `action count mark` and a line for each pair, or only `refused N`.
-ghost use Rattle.std.specs.Prelude.{◌≡◌, min};
+ghost use Rattle.std.specs.Prelude.{◌≡◌, length};
 ghost use Rattle.rules.specs.Run.{run, play_input, refusal, text_of, keyplay};
+ghost use Rattle.keyvalues.specs.View.{told};
+ghost use Rattle.mapparts.specs.View.{placed};
 ghost use Rattle.playback.specs.View.{Put, printed};
 
 use crate::{lines, put};
-use mapfile::{run, write};
-use mapparts::number;
-use mapparts::number::Read;
+use keyvalues::refusal::Refusal;
+use mapfile::run;
+use mapparts::reader::Reader;
+use mapparts::writer::Writer;
 
 // The budget that each key gets.
 const BUDGET: u16 = 1000;
@@ -18,72 +21,83 @@ const MOST_INPUT: usize = 65536;
 pub const MOST_TEXT: usize = 262162;
 
 // The line `refused N`.
-fn put_refusal(text: &mut [u8], n: u32) -> usize
-    ensures { Put (refusal n) 0 text.old result text.new }
+#[tactic(auto, using(crate::proofs::Lined::refusal_stop, crate::proofs::Lined::refusal_stop_number, crate::proofs::Lined::refusal_stop_end, crate::proofs::Lined::refusal_put))]
+fn put_refusal(writer: &mut Writer, n: u32) -> Result<(), Refusal>
+    ensures same { (writer.new.bytes.ghost_name ≡ writer.old.bytes.ghost_name) × (length writer.new.bytes.now ≡ length writer.old.bytes.now) }
+    ensures puts { Put (refusal n) (writer.old.at, writer.old.bytes.now) result (writer.new.at, writer.new.bytes.now) }
 {
-    let a = put::put_bytes(text, 0, b"refused ");
-    let b = put::put_decimal(text, a, n, 5);
-    put::put_byte(text, b, b'\n')
+    writer.put_bytes(b"refused ")?;
+    put::put_decimal(writer, n, 5)?;
+    writer.put_bytes(b"\n")?;
+    Ok(())
 }
 
 // A map and keys, run with the program's budget and output.
-fn put_run(text: &mut [u8], map: &[u8], keys: &[u8]) -> usize
-    ensures { Put (text_of (run map.now keys.now 1000 65536)) 0 text.old result text.new }
+fn put_run(writer: &mut Writer, map: &[u8], keys: &[u8]) -> Result<(), Refusal>
+    ensures same { (writer.new.bytes.ghost_name ≡ writer.old.bytes.ghost_name) × (length writer.new.bytes.now ≡ length writer.old.bytes.now) }
+    ensures puts { Put (text_of (run map.now keys.now 1000 65536)) (writer.old.at, writer.old.bytes.now) result (writer.new.at, writer.new.bytes.now) }
 {
     let mut output = [0u8; run::MOST_OUTPUT];
     let r = run::run(map, keys, &mut output, BUDGET);
     let code = (r % 32) as u32;
     if code != 0 {
-        return put_refusal(text, code);
+        return put_refusal(writer, code);
     }
     let size = (r / 32) as usize;
-    let start = put::put_bytes(text, 0, b"action count mark\n");
-    lines::put_lines(text, start, &output[..size])
-}
-
-fn least(a: usize, b: usize) -> usize
-    ensures { result ≡ min a b }
-{
-    if a < b { a } else { b }
+    writer.put_bytes(b"action count mark\n")?;
+    lines::put_lines(writer, &output[..size])
 }
 
 // The map's length, the map, then keys.
-fn put_play(text: &mut [u8], input: &[u8]) -> usize
-    ensures { Put (text_of (play_input input.now)) 0 text.old result text.new }
+#[tactic(auto, using(crate::proofs::Texts::play_bad, crate::proofs::Texts::play_short, crate::proofs::Texts::play_run))]
+fn put_play(writer: &mut Writer, input: &[u8]) -> Result<(), Refusal>
+    ensures same { (writer.new.bytes.ghost_name ≡ writer.old.bytes.ghost_name) × (length writer.new.bytes.now ≡ length writer.old.bytes.now) }
+    ensures puts { Put (text_of (play_input input.now)) (writer.old.at, writer.old.bytes.now) result (writer.new.at, writer.new.bytes.now) }
 {
-    let r = number::read_number(input, 0);
-    match r {
-        Read::Bad => return put_refusal(text, 9),
-        Read::Number { value, next } => {
-            let size = value as usize;
-            let start = least(next, input.len());
-            if input.len() - start < size {
-                return put_refusal(text, 9);
-            }
-            let end = start + size;
-            return put_run(text, &input[start..end], &input[end..]);
-        }
+    let mut reader = Reader { rest: input };
+    let size = match reader.number() {
+        Ok(size) => size as usize,
+        Err(refusal) => return put_refusal(writer, refusal.number() as u32),
+    };
+    let rest = reader.rest;
+    if rest.len() < size {
+        return put_refusal(writer, 9);
     }
+    let (map, keys) = rest.split_at(size);
+    put_run(writer, map, keys)
 }
 
 // Longer input is refused with 9.
-fn put_text(text: &mut [u8], input: &[u8]) -> usize
-    ensures { Put (keyplay input.now) 0 text.old result text.new }
+#[tactic(auto, using(crate::proofs::Texts::text_long, crate::proofs::Texts::text_played))]
+fn put_text(writer: &mut Writer, input: &[u8]) -> Result<(), Refusal>
+    ensures same { (writer.new.bytes.ghost_name ≡ writer.old.bytes.ghost_name) × (length writer.new.bytes.now ≡ length writer.old.bytes.now) }
+    ensures puts { Put (keyplay input.now) (writer.old.at, writer.old.bytes.now) result (writer.new.at, writer.new.bytes.now) }
 {
     if MOST_INPUT < input.len() {
-        return put_refusal(text, 9);
+        return put_refusal(writer, 9);
     }
-    put_play(text, input)
+    put_play(writer, input)
+}
+
+// The text of an input, in front of the lent bytes; answers its length. Refused, they have a part of it.
+fn put_or_scratch(text: &mut [u8], input: &[u8]) -> Result<usize, Refusal>
+    ensures { told (λ n. (n, text.new)) result ≡ placed (keyplay input.now) (0, text.old) }
+{
+    let mut writer = Writer { bytes: text, at: 0 };
+    put_text(&mut writer, input)?;
+    Ok(writer.at)
 }
 
 // The text of an input, in front of lent bytes; answers its length. Where it does not fit: 0, and all zeros.
+#[tactic(auto, using(crate::proofs::Putting::printed_fits, crate::proofs::Putting::printed_over))]
 pub fn keyplay(input: &[u8], text: &mut [u8]) -> usize
     ensures { (result, text.new) ≡ printed text.old (keyplay input.now) }
 {
-    let n = put_text(text, input);
-    if text.len() < n {
-        write::clear_all(text);
-        return 0;
+    match put_or_scratch(text, input) {
+        Ok(size) => size,
+        Err(_) => {
+            text.fill(0);
+            0
+        }
     }
-    n
 }

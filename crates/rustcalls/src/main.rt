@@ -2,14 +2,12 @@
 // answers of the Rust original; a refusal that it does not have is that of a model of it.
 #![tactic(auto)]
 
-use framed::Player;
 use std::io;
 use std::io::{BufWriter, Write};
 
 fn main(rt: HostRuntime) -> io::Result<()> {
-    let mut input = [0u8; 400000];
-    let n = framed::read_full(&mut rt.stdin(), &mut input)?;
+    let input = playback::read_input(rt.alloc(), rt.stdin(), 400000)?;
     let mut out = BufWriter::new(rt.alloc(), rt.stdout())?;
-    framed::cases(&mut out, &input[..n], Player::Callplay)?;
+    framed::cases(&mut out, &input, playcalls::answer)?;
     out.flush()
 }

@@ -1,19 +1,19 @@
-use Prim.Native.Nat.{ℕ, ◌-◌, ◌≤◌}
+use Prim.Native.Nat.{ℕ}
 use mathlib.Core.Path.{◌≡◌}
 use mathlib.Core.List.{List}
-use lib.ListN.{length, take}
+use lib.ListN.{length}
 use Rattle.rules.specs.Basics.{accept}
 use Rattle.rules.specs.Values.{Binding}
 use Rattle.rules.specs.Run.{read_keys}
-use Rattle.keyparts.specs.View.{graph_in}
-use Rattle.keytables.specs.View.{tables_in}
-use Rattle.keypairs.specs.View.{state_of}
+use Rattle.keyparts.specs.View.{graph_of}
+use Rattle.keytables.specs.View.{tables_of}
+use Rattle.keypairs.specs.View.{live_of}
 use Rattle.mapfile.proofs.Playing.{Playing}
 use Rattle.mapfile.proofs.play.play_keys.Given as goal
 
-abbrev pub invariant-loop-at : goal.invariant-loop-at
-invariant-loop-at l = (l.written ≤ l.room) × (length l.out ≡ length l.initial.out) × ((length l.queue ≡ 256) × (length l.sequences ≡ 520) × (length l.trail ≡ 64))
-    × ((cs : List Binding) (ks : List ℕ) → read_keys l.keys ≡ accept ks → Playing (graph_in l.words l.counts) cs (tables_in l.tables) l.budget l.room l.keys l.initial.out ks l.at l.written (state_of l.state (tables_in l.tables) l.queue l.sequences (take l.state.trailed l.trail)) l.out)
+abbrev pub invariant-loop-reader : goal.invariant-loop-reader
+invariant-loop-reader l = (l.writer.bytes.ghost_name ≡ l.initial.writer.bytes.ghost_name) × (length l.writer.bytes.now ≡ length l.initial.writer.bytes.now)
+    × ((cs : List Binding) (ks : List ℕ) → read_keys l.keys ≡ accept ks → Playing (graph_of l.map.graph.now) cs (tables_of l.map.tables.now) l.budget l.initial.writer.bytes.now ks l.reader.rest.now (live_of (tables_of l.map.tables.now) l.live) l.writer.at l.writer.bytes.now)
 
-abbrev pub decreases-loop-at : goal.decreases-loop-at
-decreases-loop-at l = length l.keys - l.at
+abbrev pub decreases-loop-reader : goal.decreases-loop-reader
+decreases-loop-reader l = length l.reader.rest.now

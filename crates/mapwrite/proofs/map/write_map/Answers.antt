@@ -1,25 +1,14 @@
--- All numbers are put from the front on. The page at the end tells whether they fit, and if they do, where they end.
-use lib.ListN.{length, replicate}
-use mathlib.Core.Path.{◌≡◌, ap, ◌∙◌}
-use native.Mathlib.Omega.{arith}
-use Rattle.keptcalls.specs.View.{calls_in}
-use Rattle.keytables.specs.View.{tables_in}
-use Rattle.mapwrite.proofs.Few.{map_few}
-use Rattle.mapwrite.proofs.Sent.{sent_full, sent_fits, sent_length}
+-- What was written is what is sent; refused, the output is cleared.
+use mathlib.Core.Path.{ap, ◌∙◌}
+use lib.ListN.{replicate}
+use Rattle.rules.specs.Basics.{refuse}
+use Rattle.keytables.specs.View.{tables_of}
+use Rattle.keptcalls.specs.View.{kept_in}
+use Rattle.mapwrite.proofs.Sent.{sent_fits, sent_full}
 use Rattle.mapwrite.proofs.map.write_map.Goals as goal
 
-pub returns-then-b : goal.returns-then-b
-returns-then-b c =
-    let a = c.args in
-    let l : length c.put_calls-b.new.out ≡ length a.output.now = omega (arith, c.put_calls-b.auto.out, c.put_tables-a.auto.out) in
-    sent_full (tables_in a.tables.words) (calls_in a.count a.kept.now) a.output.now c.put_tables-a.ensures c.put_calls-b.ensures c.clear_all.new.out c.if-b.true (c.clear_all.ensures ∙ ap (λ n. replicate n 0) l)
+pub returns-in-Ok : goal.returns-in-Ok
+returns-in-Ok c = sent_fits (tables_of c.args.tables.now) (kept_in c.args.count c.args.kept.now) c.args.output.now _ _ c.in-Ok.ensures.wrote
 
-pub overflow_mul-result : goal.overflow_mul-result
-overflow_mul-result c =
-    let a = c.args in
-    omega (arith, sent_length (tables_in a.tables.words) (calls_in a.count a.kept.now) a.output.now c.put_tables-a.ensures c.put_calls-b.ensures c.if-b.false, map_few a.tables.words a.kept.now a.count)
-
-pub returns : goal.returns
-returns c =
-    let a = c.args in
-    sent_fits (tables_in a.tables.words) (calls_in a.count a.kept.now) a.output.now c.put_tables-a.ensures c.put_calls-b.ensures c.if-b.false
+pub returns-in-Err : goal.returns-in-Err
+returns-in-Err c = sent_full (tables_of c.args.tables.now) (kept_in c.args.count c.args.kept.now) c.args.output.now _ _ (ap refuse c.number.ensures ∙ c.in-Err.ensures.wrote) (c.fill.ensures.after (λ y e. e) ∙ ap (λ n. replicate n 0) c.write_or_scratch.auto.output)

@@ -1,4 +1,4 @@
--- The arms are the clauses of `override`.
+-- The cases are those of the definition.
 use Rattle.rules.specs.KeyLoop.{override}
 use Rattle.keypairs.proofs.pair.Pair.overridden.Goals as goal
 

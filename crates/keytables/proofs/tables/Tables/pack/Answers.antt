@@ -1,41 +1,39 @@
--- The tests come in the order of the definition; within its range a list is seen whole, and its words are its entries.
-use mathlib.Core.Path.{◌≡◌, sym, ◌∙◌}
-use lib.ListN.{length}
-use borrow.Author.Tests.{not-true, not-false}
+-- The first table that is out of range refuses; else all are in range, and the words are theirs.
+use Rattle.std.proofs.Common.{rules, ◌≡◌, ap, length, Err}
+use Rattle.rules.specs.Basics.{accept}
 use Rattle.keyvalues.proofs.Ranges.{length-mapped}
-use Rattle.keytables.specs.View.{whole_tables}
-use Rattle.keytables.proofs.Packs.{never, over_classes, bad_classes, over_modes, bad_modes, over_rules, rules_too, all_words, tables_from, packed}
-use borrow.Author.Rules.{rules}
+use Rattle.keytables.proofs.Packs.{refused_by, accepted_by, tables_ok, all_words}
 use Rattle.keytables.proofs.tables.Tables.pack.Goals as goal
 
-pub returns-then-z-gt-CLASSES : goal.returns-then-z-gt-CLASSES
-returns-then-z-gt-CLASSES c = let n : (length c.args.self.classes ≡ 16) × (length c.args.self.modes ≡ 16) × (length c.args.self.rules ≡ 64) = (search (rules, length-mapped), search (rules, length-mapped), search (rules, length-mapped)) in let x = c.args.self in
-    packed _ (whole_tables x) _ _ (c.refused.ensures ∙ over_classes x n.0 n.1 n.2 c.if-z-gt-CLASSES.true) (never _ c.refused.ensures)
+pub returns-in_err-words : goal.returns-in_err-words
+returns-in_err-words c = let x = c.args.self.now in
+    let lc : length x.classes ≡ 16 = search (rules, length-mapped) in let lm : length x.modes ≡ 16 = search (rules, length-mapped) in let lr : length x.rules ≡ 64 = search (rules, length-mapped) in
+    let a = refused_by _ _ _ c.in_err-words.ensures.answer in
+    let f : c.from_residual.result ≡ Err c.in_err-words.field-0.0 = search rules in
+    rw (f, ← tables_ok x lc lm lr, a.0, a.1)
 
-pub returns-then-not-c : goal.returns-then-not-c
-returns-then-not-c c = let n : (length c.args.self.classes ≡ 16) × (length c.args.self.modes ≡ 16) × (length c.args.self.rules ≡ 64) = (search (rules, length-mapped), search (rules, length-mapped), search (rules, length-mapped)) in let x = c.args.self in
-    packed _ (whole_tables x) _ _ (c.refused-then-not-c.ensures ∙ bad_classes x n.0 n.1 n.2 c.if-z-gt-CLASSES.false (sym c.pack_classes-c.ensures.valid_value ∙ not-true _ c.if-not-c.true)) (never _ c.refused-then-not-c.ensures)
+pub returns-in_err-words-2 : goal.returns-in_err-words-2
+returns-in_err-words-2 c = let x = c.args.self.now in
+    let lc : length x.classes ≡ 16 = search (rules, length-mapped) in let lm : length x.modes ≡ 16 = search (rules, length-mapped) in let lr : length x.rules ≡ 64 = search (rules, length-mapped) in
+    let a = accepted_by _ _ _ c.in_ok-words.ensures.answer in
+    let b = refused_by _ _ _ c.in_err-words-2.ensures.answer in
+    let f : c.from_residual-in_err-words-2.result ≡ Err c.in_err-words-2.field-0.0 = search rules in
+    rw (f, ← tables_ok x lc lm lr, a.0, b.0, b.1)
 
-pub returns-then-z-gt-MODES : goal.returns-then-z-gt-MODES
-returns-then-z-gt-MODES c = let n : (length c.args.self.classes ≡ 16) × (length c.args.self.modes ≡ 16) × (length c.args.self.rules ≡ 64) = (search (rules, length-mapped), search (rules, length-mapped), search (rules, length-mapped)) in let x = c.args.self in
-    packed _ (whole_tables x) _ _ (c.refused-then-z-gt-MODES.ensures ∙ over_modes x n.0 n.1 n.2 c.if-z-gt-CLASSES.false (sym c.pack_classes-c.ensures.valid_value ∙ not-false _ c.if-not-c.false) c.if-z-gt-MODES.true) (never _ c.refused-then-z-gt-MODES.ensures)
-
-pub returns-then-not-m : goal.returns-then-not-m
-returns-then-not-m c = let n : (length c.args.self.classes ≡ 16) × (length c.args.self.modes ≡ 16) × (length c.args.self.rules ≡ 64) = (search (rules, length-mapped), search (rules, length-mapped), search (rules, length-mapped)) in let x = c.args.self in
-    packed _ (whole_tables x) _ _ (c.refused-then-not-m.ensures ∙ bad_modes x n.0 n.1 n.2 c.if-z-gt-CLASSES.false (sym c.pack_classes-c.ensures.valid_value ∙ not-false _ c.if-not-c.false) c.if-z-gt-MODES.false (sym c.pack_modes-m.ensures.valid_value ∙ not-true _ c.if-not-m.true)) (never _ c.refused-then-not-m.ensures)
-
-pub returns-then-z-gt-RULES : goal.returns-then-z-gt-RULES
-returns-then-z-gt-RULES c = let n : (length c.args.self.classes ≡ 16) × (length c.args.self.modes ≡ 16) × (length c.args.self.rules ≡ 64) = (search (rules, length-mapped), search (rules, length-mapped), search (rules, length-mapped)) in let x = c.args.self in
-    packed _ (whole_tables x) _ _ (c.refused-then-z-gt-RULES.ensures ∙ over_rules x n.0 n.1 n.2 c.if-z-gt-CLASSES.false (sym c.pack_classes-c.ensures.valid_value ∙ not-false _ c.if-not-c.false) c.if-z-gt-MODES.false (sym c.pack_modes-m.ensures.valid_value ∙ not-false _ c.if-not-m.false) c.if-z-gt-RULES.true) (never _ c.refused-then-z-gt-RULES.ensures)
-
-pub returns-then-not-r : goal.returns-then-not-r
-returns-then-not-r c = let n : (length c.args.self.classes ≡ 16) × (length c.args.self.modes ≡ 16) × (length c.args.self.rules ≡ 64) = (search (rules, length-mapped), search (rules, length-mapped), search (rules, length-mapped)) in let x = c.args.self in
-    packed _ (whole_tables x) _ _ (c.refused-then-not-r.ensures ∙ sym (not-true _ c.if-not-r.true) ∙ c.pack_rules-r.ensures.valid_value ∙ rules_too x n.0 n.1 n.2 c.if-z-gt-CLASSES.false (sym c.pack_classes-c.ensures.valid_value ∙ not-false _ c.if-not-c.false) c.if-z-gt-MODES.false (sym c.pack_modes-m.ensures.valid_value ∙ not-false _ c.if-not-m.false) c.if-z-gt-RULES.false) (never _ c.refused-then-not-r.ensures)
+pub returns-in_err-words-3 : goal.returns-in_err-words-3
+returns-in_err-words-3 c = let x = c.args.self.now in
+    let lc : length x.classes ≡ 16 = search (rules, length-mapped) in let lm : length x.modes ≡ 16 = search (rules, length-mapped) in let lr : length x.rules ≡ 64 = search (rules, length-mapped) in
+    let a = accepted_by _ _ _ c.in_ok-words.ensures.answer in
+    let b = accepted_by _ _ _ c.in_ok-words-2.ensures.answer in
+    let d = refused_by _ _ _ c.in_err-words-3.ensures.answer in
+    let f : c.from_residual-in_err-words-3.result ≡ Err c.in_err-words-3.field-0.0 = search rules in
+    rw (f, ← tables_ok x lc lm lr, a.0, b.0, d.0, d.1)
 
 pub returns : goal.returns
-returns c = let n : (length c.args.self.classes ≡ 16) × (length c.args.self.modes ≡ 16) × (length c.args.self.rules ≡ 64) = (search (rules, length-mapped), search (rules, length-mapped), search (rules, length-mapped)) in let x = c.args.self in
-    let v = not-false _ c.if-not-r.false in
-    packed _ (whole_tables x) _ _
-    (sym v ∙ c.pack_rules-r.ensures.valid_value ∙ rules_too x n.0 n.1 n.2 c.if-z-gt-CLASSES.false (sym c.pack_classes-c.ensures.valid_value ∙ not-false _ c.if-not-c.false) c.if-z-gt-MODES.false (sym c.pack_modes-m.ensures.valid_value ∙ not-false _ c.if-not-m.false) c.if-z-gt-RULES.false)
-    (λ t. tables_from c.new.result.words x.sizes c.pack_classes-c.result.words c.pack_modes-m.result.words c.pack_rules-r.result.words c.new.ensures.0 c.new.ensures.1 c.new.ensures.2 c.new.ensures.3
-    ∙ all_words x n.0 n.1 n.2 c.if-z-gt-CLASSES.false (sym c.pack_classes-c.ensures.valid_value ∙ not-false _ c.if-not-c.false) c.if-z-gt-MODES.false (sym c.pack_modes-m.ensures.valid_value ∙ not-false _ c.if-not-m.false) c.if-z-gt-RULES.false c.pack_classes-c.result.words c.pack_modes-m.result.words c.pack_rules-r.result.words (c.pack_classes-c.ensures.classes_value (not-false _ c.if-not-c.false)) (c.pack_modes-m.ensures.words_value (not-false _ c.if-not-m.false)) (c.pack_rules-r.ensures.words_value v))
+returns c = let x = c.args.self.now in
+    let lc : length x.classes ≡ 16 = search (rules, length-mapped) in let lm : length x.modes ≡ 16 = search (rules, length-mapped) in let lr : length x.rules ≡ 64 = search (rules, length-mapped) in
+    let a = accepted_by _ _ _ c.in_ok-words.ensures.answer in
+    let b = accepted_by _ _ _ c.in_ok-words-2.ensures.answer in
+    let d = accepted_by _ _ _ c.in_ok-words-3.ensures.answer in
+    rw (← tables_ok x lc lm lr, a.0, b.0, d.0, a.1, b.1, d.1)
+    (ap accept (all_words x lc lm lr a.0 b.0 d.0 _ _ _ c.in_ok-words.ensures.packed c.in_ok-words-2.ensures.packed c.in_ok-words-3.ensures.packed))

@@ -10,7 +10,7 @@ use Rattle.keyvalues.proofs.node.NodeWords.holding.Goals as goal
 
 pub returns : goal.returns
 unfolding step_of
-returns c = let a = c.args in let s = a.step in
+returns c = let a = c.args in let s = a.step.now in
     let e : length s.actions ≡ 4 = search rules in
     pack_node (a.mode % 128) c.bit-flag.result c.four-count.result c.opt-next.result c.opt-fall.result c.opt-mark.result c.four_word-acts.result
     (omega arith) (search rules) (search rules) (search rules) (search rules) (search rules)

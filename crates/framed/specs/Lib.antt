@@ -1,2 +1,0 @@
--- How many inputs stand in one.
-pub mod Frames

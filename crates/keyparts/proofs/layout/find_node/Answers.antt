@@ -1,7 +1,0 @@
--- The slices are the parts of the words that the definitions name.
-use Rattle.keyparts.specs.View.{head_words, act_words}
-use Rattle.keyparts.proofs.layout.find_node.Goals as goal
-
-pub returns : goal.returns
-unfolding head_words act_words
-returns c = c.find_node.ensures _

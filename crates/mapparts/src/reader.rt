@@ -1,0 +1,102 @@
+// Reading bytes from the front: numbers, each a number of groups of seven bits, lowest first, 0x80 set on all but the last, in
+// the shortest form. A number's range is tested when it is read.
+ghost use Rattle.std.specs.Prelude.{◌≡◌, [], ◌∷◌, ◌+◌, ◌-◌, ◌≤◌, ◌<◌, leb, ltb, length, IfOk, MatchResult};
+ghost use Rattle.rules.specs.Basics.{accept};
+ghost use Rattle.rules.specs.Numbers.{number};
+ghost use Rattle.rules.specs.MapFile.{such, up_to, at_end};
+ghost use Rattle.keyvalues.specs.View.{told};
+ghost use Rattle.mapparts.specs.View.{Reads};
+
+use keyvalues::refusal::Refusal;
+
+// The bytes that are still to be read. After a refusal, nothing is said of them.
+#[derive(Clone, Copy)]
+pub struct Reader<'a> {
+    pub rest: &'a [u8],
+}
+
+impl<'a> Reader<'a> {
+    fn byte(&mut self) -> Result<u16, Refusal>
+        ensures { MatchResult result (λ b. (b < 256) × (self.old.rest.now ≡ b ∷ self.new.rest.now)) (λ e. (e ≡ Refusal.Malformed) × (self.old.rest.now ≡ [])) }
+    {
+        match self.rest.split_first() {
+            Some((b, rest)) => {
+                self.rest = rest;
+                Ok(*b as u16)
+            }
+            None => Err(Refusal::Malformed),
+        }
+    }
+
+    pub fn number(&mut self) -> Result<u16, Refusal>
+        ensures { Reads (λ n. n) number self.old.rest.now result self.new.rest.now }
+    {
+        let b = self.byte()?;
+        if b < 128 {
+            return Ok(b);
+        }
+        let c = self.byte()?;
+        if c == 0 {
+            return Err(Refusal::Malformed);
+        }
+        if c < 128 {
+            return Ok((b - 128) + 128 * c);
+        }
+        let d = self.byte()?;
+        if d == 0 {
+            return Err(Refusal::Malformed);
+        }
+        // 4 or more stands for over 65,535, and so does a byte that wants a fourth
+        if 4 <= d {
+            return Err(Refusal::Malformed);
+        }
+        Ok((b - 128) + 128 * ((c - 128) + 128 * d))
+    }
+
+    // A number of at most `most`.
+    pub fn up_to(&mut self, most: u16) -> Result<u16, Refusal>
+        ensures bound { IfOk result (λ n. n ≤ most) }
+        ensures reads { Reads (λ n. n) (up_to most) self.old.rest.now result self.new.rest.now }
+    {
+        let n = self.number()?;
+        if n <= most {
+            return Ok(n);
+        }
+        Err(Refusal::OutOfRange)
+    }
+
+    // A number below `bound`.
+    pub fn below(&mut self, bound: u16) -> Result<u16, Refusal>
+        ensures bound { IfOk result (λ n. n < bound) }
+        ensures reads { Reads (λ n. n) (such (λ n. ltb n bound)) self.old.rest.now result self.new.rest.now }
+    {
+        let n = self.number()?;
+        if n < bound {
+            return Ok(n);
+        }
+        Err(Refusal::OutOfRange)
+    }
+
+    // A number of at least `least`.
+    pub fn at_least(&mut self, least: u16) -> Result<u16, Refusal>
+        ensures bound { IfOk result (λ n. least ≤ n) }
+        ensures reads { Reads (λ n. n) (such (leb least)) self.old.rest.now result self.new.rest.now }
+    {
+        let n = self.number()?;
+        if least <= n {
+            return Ok(n);
+        }
+        Err(Refusal::OutOfRange)
+    }
+
+    // Nothing may be left: bytes that are, are refused.
+    #[tactic(auto, using(crate::proofs::Reading::ended, crate::proofs::Reading::left_over))]
+    pub fn end(&self) -> Result<(), Refusal>
+        ensures { told (λ x. x) result ≡ at_end (accept (tt, self.now.rest.now)) }
+    {
+        if self.rest.is_empty() {
+            return Ok(());
+        }
+        Err(Refusal::Malformed)
+    }
+}

@@ -1,0 +1,78 @@
+// Numbers written into bytes that are lent, as the reader reads them.
+ghost use Rattle.std.specs.Prelude.{◌≡◌, [], ◌∷◌, ◌≤◌, suc, length, OnErr};
+ghost use Rattle.rules.specs.Numbers.{bytes_of};
+ghost use Rattle.keyvalues.specs.View.{told};
+ghost use Rattle.mapparts.specs.View.{placed, Puts};
+
+use keyvalues::refusal::Refusal;
+
+// The lent bytes, and how many of them are written. What is put after a refusal stands behind what was put before it.
+#[derive(Drop)]
+pub struct Writer<'a> {
+    pub bytes: &'a mut [u8],
+    pub at: usize,
+}
+
+impl<'a> Writer<'a> {
+    // All of the bytes, or none where they do not fit.
+    #[tactic(auto, using(crate::proofs::Writing::too_long))]
+    pub fn put_bytes(&mut self, bytes: &[u8]) -> Result<(), Refusal>
+        ensures same { (self.new.bytes.ghost_name ≡ self.old.bytes.ghost_name) × (length self.new.bytes.now ≡ length self.old.bytes.now) }
+        ensures puts { told (λ _. (self.new.at, self.new.bytes.now)) result ≡ placed bytes.now (self.old.at, self.old.bytes.now) }
+        ensures kept { OnErr result ((self.new.at ≡ self.old.at) × (self.new.bytes.now ≡ self.old.bytes.now)) }
+    {
+        let size = bytes.len();
+        if self.bytes.len() < size {
+            return Err(Refusal::OutputFull);
+        }
+        if self.bytes.len() - size < self.at {
+            return Err(Refusal::OutputFull);
+        }
+        let end = self.at + size;
+        self.bytes[self.at..end].copy_from_slice(bytes);
+        self.at = end;
+        Ok(())
+    }
+
+    // Numbers up to 65,536, which is one more than the largest that the others take.
+    #[tactic(auto, using(crate::proofs::Writing::bytes_one, crate::proofs::Writing::bytes_two, crate::proofs::Writing::bytes_three))]
+    fn put_wide(&mut self, value: u32) -> Result<(), Refusal>
+        requires { value ≤ 65536 }
+        ensures same { (self.new.bytes.ghost_name ≡ self.old.bytes.ghost_name) × (length self.new.bytes.now ≡ length self.old.bytes.now) }
+        ensures puts { told (λ _. (self.new.at, self.new.bytes.now)) result ≡ placed (bytes_of value) (self.old.at, self.old.bytes.now) }
+        ensures kept { OnErr result ((self.new.at ≡ self.old.at) × (self.new.bytes.now ≡ self.old.bytes.now)) }
+    {
+        if value < 128 {
+            self.put_bytes(&[value as u8])?;
+            return Ok(());
+        }
+        let low = (value % 128 + 128) as u8;
+        if value < 16384 {
+            self.put_bytes(&[low, (value / 128) as u8])?;
+            return Ok(());
+        }
+        let middle = (value / 128 % 128 + 128) as u8;
+        self.put_bytes(&[low, middle, (value / 16384) as u8])?;
+        Ok(())
+    }
+
+    // The number, all of it or nothing.
+    pub fn put(&mut self, value: u16) -> Result<(), Refusal>
+        ensures same { (self.new.bytes.ghost_name ≡ self.old.bytes.ghost_name) × (length self.new.bytes.now ≡ length self.old.bytes.now) }
+        ensures puts { Puts (value ∷ []) (self.old.at, self.old.bytes.now) result (self.new.at, self.new.bytes.now) }
+        ensures kept { OnErr result ((self.new.at ≡ self.old.at) × (self.new.bytes.now ≡ self.old.bytes.now)) }
+    {
+        self.put_wide(value as u32)?;
+        Ok(())
+    }
+
+    // One more than the number.
+    pub fn put_after(&mut self, value: u16) -> Result<(), Refusal>
+        ensures same { (self.new.bytes.ghost_name ≡ self.old.bytes.ghost_name) × (length self.new.bytes.now ≡ length self.old.bytes.now) }
+        ensures puts { Puts (suc value ∷ []) (self.old.at, self.old.bytes.now) result (self.new.at, self.new.bytes.now) }
+        ensures kept { OnErr result ((self.new.at ≡ self.old.at) × (self.new.bytes.now ≡ self.old.bytes.now)) }
+    {
+        self.put_wide((value as u32) + 1)?;
+        Ok(())
+    }
+}

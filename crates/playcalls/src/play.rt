@@ -1,0 +1,69 @@
+// The calls, one after another, each on the machine that the one before left.
+use crate::call::Call;
+use crate::{file, print, tables};
+use keptcalls::words::CallWords;
+use keymachine::machine::ModalMachine;
+use keymachine::scanner::Scanner;
+use keymap::lent;
+use keyvalues::refusal::Refusal;
+use mapparts::reader::Reader;
+use std::io;
+use std::io::Write;
+
+// Makes the call, and prints its answer.
+fn perform<W: Write>(out: &mut W, m: &mut Scanner, call: Call) -> io::Result<()> {
+    match call {
+        Call::Map { mode, path, step } => print::settled(
+            out,
+            lent::add_mapping(m, mode, path, step),
+        ),
+        Call::Prefix { mode, path, step } => {
+            print::settled(out, lent::add_prefix(m, mode, path, step))
+        }
+        Call::Key { key, budget } => print::pressed(out, lent::input_key(m, key, budget)),
+        Call::Pop => print::waiting(out, lent::pop(m)),
+        Call::Repeat { sequence, over } => print::settled(out, lent::repeat(m, sequence, over)),
+        Call::Reset => print::settled(out, lent::reset_mode(m)),
+        Call::Find { mode, action } => print::found(out, lent::find(m, mode, action)),
+        Call::Hint => write!(out, "free {}", lent::free_nodes(m)),
+        Call::Write { room } => file::print_file(out, m, room),
+        Call::Unknown => print::refused(out, Refusal::OutOfRange),
+    }
+}
+
+// To the end of the input, or to the first call that is malformed. A call takes a byte at least, so there are no more calls
+// than bytes.
+fn play_calls<W: Write>(out: &mut W, input: &mut Reader, m: &mut Scanner) -> io::Result<()> {
+    for _ in 0..input.rest.len() {
+        if input.rest.is_empty() {
+            break;
+        }
+        match Call::read(input) {
+            Err(refusal) => return print::refused_line(out, refusal),
+            Ok(call) => {
+                perform(out, m, call)?;
+                writeln!(out, " mode {}", lent::mode(m))?;
+            }
+        }
+    }
+    Ok(())
+}
+
+// The tables, which the machine is opened with.
+fn open(input: &mut Reader, m: &mut Scanner) -> Result<(), Refusal> {
+    let tables = tables::read_tables(input)?;
+    lent::open(m, tables)
+}
+
+// The tables, and then the calls.
+pub(crate) fn play<W: Write>(out: &mut W, bytes: &[u8]) -> io::Result<()> {
+    let mut input = Reader { rest: bytes };
+    let mut m = Scanner {
+        machine: ModalMachine::fresh(),
+        kept: [CallWords::EMPTY; CallWords::KEPT as usize],
+    };
+    match open(&mut input, &mut m) {
+        Err(refusal) => print::refused_line(out, refusal),
+        Ok(()) => play_calls(out, &mut input, &mut m),
+    }
+}
