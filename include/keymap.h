@@ -47,7 +47,7 @@ extern "C" {
  * examples/stack.c, which measures it; that is no proof of a bound:
  *
  *     keymap_size          1 KiB
- *     keymap_open        273 KiB
+ *     keymap_open        201 KiB
  *     keymap_bind        119 KiB
  *     keymap_key          16 KiB
  *     keymap_pop           3 KiB
@@ -57,11 +57,11 @@ extern "C" {
  *     keymap_mode          1 KiB
  *     keymap_find          1 KiB
  *     keymap_free          1 KiB
- *     keymap_write         2 KiB
- *     keymap_run         286 KiB
+ *     keymap_write         3 KiB
+ *     keymap_run         220 KiB
  *
  * examples/stack.c also holds a key, a pop and a reset to 32 KiB, the run to 256 KiB and every call to 384 KiB, on any
- * processor that it is built for. The run misses its target at present.
+ * processor that it is built for.
  */
 typedef struct keymap_machine keymap_machine;
 

@@ -1,4 +1,5 @@
 // Calls on a machine by value over the map of a map file.
+use keptcalls::binding::Binding;
 use keptcalls::words::CallWords;
 use keymachine::machine::ModalMachine;
 use keymachine::scanner::Scanner;
@@ -7,19 +8,17 @@ use keypairs::pair::Pair;
 use keypairs::tracker::{SequenceTracker, Status};
 use keytables::tables::Tables;
 use keyvalues::refusal::Refusal;
+use keyvalues::step::Step;
 use mapfile::map;
 
 // The machine of a map file, with its kept calls; the fresh one, where the file is refused.
 fn scanner_of(bytes: &[u8]) -> Scanner {
     let mut kept = [CallWords::EMPTY; CallWords::KEPT as usize];
-    let machine = match map::read_map(bytes, &mut kept) {
-        Ok(map) => ModalMachine::over(map),
-        Err(_) => ModalMachine::fresh(),
-    };
-    Scanner {
-        machine: machine,
-        kept: kept,
-    }
+    let machine = map::read_map(bytes, &mut kept).map_or_else(
+        |_| ModalMachine::fresh(),
+        ModalMachine::over,
+    );
+    Scanner { machine, kept }
 }
 
 // The machine alone.
@@ -59,6 +58,23 @@ fn node_of(found: Result<Option<u16>, Refusal>) -> u16 {
     }
 }
 
+// A mapping of two keys to an action, and a prefix of them.
+fn mapping(action: u16) -> Binding {
+    Binding::Mapping {
+        mode: 1,
+        path: crate::two_keys(1, 2),
+        step: crate::one_action(action),
+    }
+}
+
+fn prefix(mode: u16, step: Option<Step>) -> Binding {
+    Binding::Prefix {
+        mode,
+        path: crate::two_keys(1, 2),
+        step,
+    }
+}
+
 // How many pairs a sequence by value remembers, of one that was pushed to a fresh one.
 fn remembered() -> u16 {
     let (tracker, _) = SequenceTracker::fresh().push(Status::Track, Pair::default());
@@ -69,8 +85,8 @@ fn remembered() -> u16 {
 // nodes that are left above it, and the pairs of a sequence above those.
 pub fn bench_other_calls(bytes: &[u8]) -> u64 {
     let s = scanner_of(bytes);
-    let (mapped, _) = s.add_mapping(1, crate::two_keys(1, 2), crate::one_action(3));
-    let (prefixed, _) = mapped.add_prefix(2, crate::two_keys(1, 2), Some(crate::one_action(3)));
+    let (mapped, _) = s.bind(&mapping(3));
+    let (prefixed, _) = mapped.bind(&prefix(2, Some(crate::one_action(3))));
     let (repeated, _) = prefixed
         .machine
         .repeat(0, Some(Context { count: 5, mark: 6 }));
@@ -103,9 +119,7 @@ pub fn bench_mappings(bytes: &[u8], times: u16) -> u64 {
     let mut s = scanner_of(bytes);
     repeated(times, |i| {
         s.machine.map.kept = 0;
-        s = s
-            .add_mapping(1, crate::two_keys(1, 2), crate::one_action(i))
-            .0;
+        s = s.bind(&mapping(i)).0;
         s.machine.map.graph.counts.nodes
     })
 }
@@ -115,7 +129,7 @@ pub fn bench_prefixes(bytes: &[u8], times: u16) -> u64 {
     let mut s = scanner_of(bytes);
     repeated(times, |_| {
         s.machine.map.kept = 0;
-        s = s.add_prefix(1, crate::two_keys(1, 2), None).0;
+        s = s.bind(&prefix(1, None)).0;
         s.machine.map.graph.counts.nodes
     })
 }
@@ -124,7 +138,7 @@ pub fn bench_prefixes(bytes: &[u8], times: u16) -> u64 {
 pub fn bench_inputs(bytes: &[u8], times: u16) -> u64 {
     let mut m = machine_of(bytes);
     repeated(times, |i| {
-        m.live.state.queued = 0;
+        m.live.clear_queue();
         m = m.input_key(i, 1000).0;
         m.live.state.queued
     })
@@ -135,7 +149,7 @@ pub fn bench_repeats(bytes: &[u8], times: u16) -> u64 {
     let mut m = machine_of(bytes);
     m.live.sequences[0].head = 128;
     repeated(times, |i| {
-        m.live.state.queued = 0;
+        m.live.clear_queue();
         m = m.repeat(0, Some(Context { count: i, mark: 6 })).0;
         m.live.state.queued
     })
@@ -158,7 +172,7 @@ pub fn bench_finds(bytes: &[u8], times: u16) -> u64 {
 
 // Openings with 16 modes, 64 rules and 0 to 16 classes.
 pub fn bench_opens(times: u16) -> u64 {
-    let mut tables = Tables::empty();
+    let mut tables = Tables::default();
     tables.sizes.modes = 16;
     tables.sizes.rules = 64;
     let mut m = ModalMachine::fresh();

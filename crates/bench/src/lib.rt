@@ -3,12 +3,13 @@
 
 pub mod calls;
 
+use keptcalls::binding::Binding;
 use keptcalls::words::CallWords;
 use keybind::map::Map;
 use keygraph::mapping;
 use keyparts::follow::FollowResult;
 use keyparts::graph::Graph;
-use keyparts::index::Index;
+use keyparts::index::{Index, IndexedGraph};
 use keyvalues::event::{EdgeEvent, EdgeRepeat};
 use keyvalues::path::{EdgePath, EdgePathPart};
 use keyvalues::step::Step;
@@ -24,40 +25,34 @@ const NOWHERE: u16 = 65535;
 
 // The node that following a key leads to, or `NOWHERE`.
 pub fn bench_follow(graph: &Graph, index: &Index, tables: &TableWords, node: u16, key: u16) -> u16 {
-    match graph.follow(index, tables.classes(), node, key) {
-        FollowResult::Successor(_, to) => to,
-        FollowResult::Fallthrough(to) => to,
+    let indexed = IndexedGraph { graph, index };
+    match indexed.follow(tables.classes(), node, key) {
+        FollowResult::Successor(_, to) | FollowResult::Fallthrough(to) => to,
         FollowResult::NoSuccessor => NOWHERE,
+    }
+}
+
+// A key, once.
+fn once(key: u16) -> EdgePathPart {
+    EdgePathPart {
+        repeat: EdgeRepeat::Once,
+        event: EdgeEvent::Key(key),
     }
 }
 
 // A path of two keys.
 pub(crate) fn two_keys(first: u16, second: u16) -> EdgePath {
-    let last = EdgePathPart {
-        repeat: EdgeRepeat::Once,
-        event: EdgeEvent::Key(second),
-    };
-    let mut parts = [last; EdgePath::PARTS as usize];
-    parts[0] = EdgePathPart {
-        repeat: EdgeRepeat::Once,
-        event: EdgeEvent::Key(first),
-    };
-    EdgePath {
-        parts: parts,
-        count: 2,
-    }
+    let mut parts = [once(second); EdgePath::PARTS as usize];
+    parts[0] = once(first);
+    EdgePath { parts, count: 2 }
 }
 
 // A step of one action.
-pub(crate) fn one_action(a: u16) -> Step {
-    Step {
-        unmapped: false,
-        actions: [a; Step::ACTIONS as usize],
-        count: 1,
-        next: None,
-        fallthrough: None,
-        mark: None,
-    }
+pub(crate) fn one_action(action: u16) -> Step {
+    let mut step = Step::default();
+    step.actions.items[0] = action;
+    step.actions.count = 1;
+    step
 }
 
 // The nodes of a graph after n bindings of two keys each, added in place. A binding that is refused ends it, with the nodes
@@ -78,13 +73,14 @@ pub fn bench_add_in_place(n: u16) -> u16 {
 // The same, by value, with the calls kept.
 pub fn bench_add_by_value(n: u16) -> u16 {
     let mut kept = [CallWords::EMPTY; CallWords::KEPT as usize];
-    let mut m = Map {
-        graph: Graph::fresh(),
-        tables: TableWords::EMPTY,
-        kept: 0,
-    };
+    let mut m = Map::fresh(TableWords::EMPTY);
     for i in 0..n {
-        m = m.add_mapping(&mut kept, 0, two_keys(i, 7), one_action(i)).0;
+        let call = Binding::Mapping {
+            mode: 0,
+            path: two_keys(i, 7),
+            step: one_action(i),
+        };
+        m = m.bind(&mut kept, &call).0;
     }
     m.graph.counts.nodes
 }

@@ -6,11 +6,13 @@
 #![tactic(auto)]
 
 use keptcalls::words::CallWords;
+use keybind::map::Map;
 use keyloop::key;
 use keyloop::key::IndexedMap;
 use keypairs::live::Live;
 use keypairs::pair::Pair;
-use keyparts::index::Index;
+use keyparts::index::{Index, IndexedGraph};
+use keyvalues::tables::TableWords;
 use mapfile::map;
 
 // A pair more.
@@ -34,23 +36,22 @@ fn keys_over(keys: &[u16], map: &IndexedMap, budget: u16) -> u64 {
         for word in live.waiting() {
             sum = mix(sum, Pair::unpack(*word));
         }
-        live.state.queued = 0;
+        live.clear_queue();
     }
     sum
 }
 
+// A map that is refused is the fresh one.
 pub fn bench_keys_in_place<'a>(bytes: &'a [u8], keys: &'a [u16], budget: u16) -> u64 {
     let mut kept = [CallWords::EMPTY; CallWords::KEPT as usize];
-    match map::read_map(bytes, &mut kept) {
-        Ok(read) => {
-            let index = Index::new(&read.graph);
-            let map = IndexedMap {
-                graph: &read.graph,
-                index: &index,
-                tables: &read.tables,
-            };
-            keys_over(keys, &map, budget)
-        }
-        Err(_) => 0,
-    }
+    let read = map::read_map(bytes, &mut kept).unwrap_or_else(|_| Map::fresh(TableWords::EMPTY));
+    let index = Index::new(&read.graph);
+    let map = IndexedMap {
+        indexed: IndexedGraph {
+            graph: &read.graph,
+            index: &index,
+        },
+        tables: &read.tables,
+    };
+    keys_over(keys, &map, budget)
 }

@@ -1,4 +1,2 @@
 -- Laws that belong to no one function.
 pub mod Packing
-pub mod Calls
-pub mod Reading

@@ -1,15 +1,18 @@
--- What the words of kept calls mean, in the values of the rules. Any 18 words are some call: 16 with two parts each, one with
--- the small numbers of the call and its step, one with the step's actions.
-use Rattle.std.specs.Prelude.{ℕ, ◌/◌, ◌%◌, List, [], ◌∷◌, map, eqb, take, if◌then◌else◌}
+-- What the words of kept calls mean, in the values of the rules. Any words are some call: 32 with a part each, one with the
+-- small numbers of the call and its step, one with the step's actions.
+use Rattle.std.specs.Prelude.{ℕ, ◌&&◌, ◌/◌, ◌%◌, List, map, eqb, take, if◌then◌else◌}
+use Rattle.std.proofs.Math.Option.{none, some}
 use Rattle.rules.specs.Basics.{Result, unless}
 use Rattle.rules.specs.Values as v
 use Rattle.rules.specs.Graph.{Graph, add_mapping, add_prefix}
 use Rattle.rules.specs.KeyLoop.{State}
 use Rattle.rules.specs.Calls.{Machine, graph_kind}
-use Rattle.rules.specs.MapFile.{optional, optional_mark}
-use Rattle.keyvalues.specs.View.{four_of, whole_path, whole_step, whole_steps, call_of}
+use Rattle.rules.specs.MapFile.{optional_mark}
+use Rattle.keyvalues.specs.View.{four_of, opt_of, path_of, step_of, steps_of, whole_path, whole_step, whole_steps, call_of}
 use Rattle.keptcalls.specs.declared.binding.Binding.{Binding}
 use Rattle.keptcalls.specs.declared.binding.Binding.TheVariants.{Mapping, Prefix}
+use Rattle.keptcalls.specs.declared.words.Kind.{Kind}
+use Rattle.keptcalls.specs.declared.words.Kind.TheVariants.{Mapping as AMapping, Prefix as APrefix, PrefixWithStep}
 use Rattle.keptcalls.specs.declared.words.CallWords.{CallWords}
 
 -- ---- a call by value
@@ -18,15 +21,33 @@ abbrev pub binding_in : Binding → v.Binding
 binding_in (Mapping mode path step) = v.Maps mode (whole_path path) (whole_step step)
 binding_in (Prefix mode path step) = v.Prefixes mode (whole_path path) (whole_steps step)
 
+-- the same with the parts and the actions that are there
+abbrev pub binding_there : Binding → v.Binding
+binding_there (Mapping mode path step) = v.Maps mode (path_of path) (step_of step)
+binding_there (Prefix mode path step) = v.Prefixes mode (path_of path) (steps_of step)
+
+-- the number of a kind, in a call's head
+abbrev pub kind_number : Kind → ℕ
+kind_number (AMapping step) = 0
+kind_number APrefix = 1
+kind_number (PrefixWithStep step) = 2
+
+-- the call of a kind, with its mode and its path
+abbrev pub call_as : Kind → ℕ → List v.Part → v.Binding
+call_as (AMapping step) mode path = v.Maps mode path (whole_step step.now)
+call_as APrefix mode path = v.Prefixes mode path none
+call_as (PrefixWithStep step) mode path = v.Prefixes mode path (some (whole_step step.now))
+
 -- ---- parts
 
+-- an event by the upper and the lower part of its code: every code is some event's
 unfoldable pub event_by : ℕ → ℕ → v.Event
-event_by kind n = if eqb kind 0 then v.Key n else (if eqb kind 1 then v.Class n else (if eqb kind 2 then v.Any else v.Fallthrough))
+event_by kind n = if eqb kind 0 then v.Key n else (if eqb kind 1 then v.Class n else (if eqb kind 2 && eqb n 0 then v.Any else v.Fallthrough))
 
 unfoldable pub repeat_by : ℕ → ℕ → v.Repeat
 repeat_by kind n = if eqb kind 0 then v.Once else (if eqb kind 1 then v.Min n else v.Max n)
 
--- the event's value and kind, then the repeat's kind and number, lowest first
+-- the event's code, then the repeat's kind and number, lowest first
 unfoldable pub part_at : ℕ → v.Part
 part_at c = record {
   repeat = repeat_by (c / 65536 / 4 % 4) (c / 65536 / 4 / 4 % 256);
@@ -42,20 +63,18 @@ cut_repeat (v.Max n) = v.Max (n % 256)
 unfoldable pub cut_part : v.Part → v.Part
 cut_part p = record { repeat = cut_repeat p.repeat; event = p.event }
 
--- two parts a word
-unfoldable pub parts_in : List ℕ → List v.Part
-parts_in [] = []
-parts_in (w ∷ ws) = part_at (w % 4294967296) ∷ part_at (w / 4294967296) ∷ parts_in ws
+abbrev pub parts_in : List ℕ → List v.Part
+parts_in cs = map part_at cs
 
 -- ---- the call
 
--- flag, count, next, fallthrough and mark, lowest first; the last three as a map file writes them
+-- flag, count, next, fallthrough and mark, lowest first
 unfoldable pub step_at : ℕ → ℕ → v.Step
 step_at h w = record {
   flag = eqb (h % 2) 1;
   actions = take (h / 2 % 8) (four_of w);
-  next = optional (h / 2 / 8 % 32);
-  fallthrough = optional (h / 2 / 8 / 32 % 32);
+  next = opt_of (h / 2 / 8 % 32);
+  fallthrough = opt_of (h / 2 / 8 / 32 % 32);
   mark = optional_mark (h / 2 / 8 / 32 / 32 % 65536);
 }
 
@@ -79,9 +98,3 @@ machine_with g kept x = record { bindings = g; kept = kept; state = x }
 unfoldable pub graph_part : v.Binding → Graph → Result Graph
 graph_part (v.Maps mode path st) g = unless (v.map_valid mode path st) 1 (add_mapping mode path st g)
 graph_part (v.Prefixes mode path st) g = unless (v.prefix_valid mode path st) 1 (add_prefix mode path st g)
-
--- ---- reading
-
--- the half of a word that a part has: the lower one, if its number is even
-unfoldable pub half_of : ℕ → ℕ → ℕ
-half_of i w = if eqb (i % 2) 0 then w % 4294967296 else w / 4294967296

@@ -1,6 +1,5 @@
-// Binding calls: what the graph makes of one, with the call kept. In place on a graph and kept calls that are lent (`lent`),
-// and by value on a machine's map (`map`).
+// Binding calls on the map of a machine: what the graph makes of one, with the call kept. In place, where a refusal leaves
+// scratch, and by value, where it leaves the map as it was.
 #![tactic(auto)]
 
-pub mod lent;
 pub mod map;

@@ -2,11 +2,9 @@
 #![tactic(auto)]
 
 use std::io;
-use std::io::{BufWriter, Write};
 
 fn main(rt: HostRuntime) -> io::Result<()> {
-    let input = playback::read_input(rt.alloc(), rt.stdin(), 250000)?;
-    let mut out = BufWriter::new(rt.alloc(), rt.stdout())?;
-    framed::cases(&mut out, &input, playback::answer)?;
-    out.flush()
+    playback::serve(rt.alloc(), rt.stdin(), rt.stdout(), 250000, |out, input| {
+        framed::cases(out, input, playback::answer)
+    })
 }

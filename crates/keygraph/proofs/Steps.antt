@@ -1,8 +1,9 @@
--- One time of a repeat, and one part of a path, in the words of the rules.
-use Prim.Native.Nat.{ℕ, suc, ◌+◌, ◌<◌, ◌≤◌}
-use mathlib.Core.Path.{◌≡◌, refl, ◌∙◌}
+-- n + 1 times are one time and n more, and a path is a part and the path after it, or all parts before its last and the last. So
+-- the steps of a loop, one behind another, are the rules' recursion.
+use Prim.Native.Nat.{ℕ, zero, suc, ◌+◌, ◌<◌, ◌≤◌}
+use mathlib.Core.Path.{◌≡◌, refl, sym, ◌∙◌}
 use mathlib.Core.List.{List, [], ◌∷◌, ◌++◌, map, map-append}
-use mathlib.Core.Option.{Option, none, some}
+use mathlib.Core.Option.{Option}
 use mathlib.Core.Bool.{Bool, true, false}
 use lib.Dec.{eqb}
 use borrow.Author.Tests.{ne_eqb}
@@ -10,34 +11,29 @@ use native.Mathlib.Omega.{arith}
 use native.Mathlib.Numerals.{add-one}
 use lib.ListN.{length, drop, get_or, drop_of_length-le}
 use lib.Seq.{drop-cons}
-use Rattle.std.specs.Prelude
-use Rattle.std.specs.Prelude.{Ok, Err}
-use Rattle.keyvalues.specs.declared.refusal.Refusal.{Refusal}
-use Rattle.keyvalues.specs.View.{told}
 use Rattle.rules.specs.Basics.{Result, accept, refuse, ◌>>=◌}
 use Rattle.rules.specs.Values.{Event, Part, Step}
 use Rattle.rules.specs.Graph.{Cursor, Empty, add_simple_step, add_simples, add_optionals, map_fall, add_intermediate, map_path, prefix_path}
 use Rattle.keygraph.specs.Making.{add_times, add_parts}
 
 module _ (mode : ℕ) (ev : Event) where
-  times_suc : (end : Option ℕ) (c : Cursor) (k : ℕ) → add_times (suc k) mode ev end c ≡ (add_simple_step mode ev Empty c >>= (λ c₁. map_fall end c₁ >>= add_times k mode ev end))
-  unfolding add_times add_simples add_optionals map_fall
-  times_suc none c k = refl
-  times_suc (some e) c k = refl
-
   pub times_more : (end : Option ℕ) (c c₁ c₂ : Cursor) (i k : ℕ) → i ≡ suc k → accept c₁ ≡ add_simple_step mode ev Empty c → accept c₂ ≡ map_fall end c₁ → add_times k mode ev end c₂ ≡ add_times i mode ev end c
-  times_more end c c₁ c₂ i k e h j = rw (e, times_suc end c k, ← h, ← j)
+  unfolding add_times add_simples add_optionals map_fall
+  times_more end c c₁ c₂ i k e h j = grind arith
 
-  pub times_refused : (end : Option ℕ) (c : Cursor) (i k n : ℕ) → i ≡ suc k → refuse n ≡ add_simple_step mode ev Empty c → refuse n ≡ add_times i mode ev end c
-  times_refused end c i k n e h = rw (e, times_suc end c k, ← h)
+  pub times_refused : (end : Option ℕ) (c : Cursor) (i n : ℕ) → 0 < i → refuse n ≡ add_simple_step mode ev Empty c → refuse n ≡ add_times i mode ev end c
+  unfolding add_times add_simples add_optionals
+  times_refused end c zero n e h = absurd (omega arith)
+  times_refused end c (suc k) n e h = grind arith
 
-  pub times_unended : (end : Option ℕ) (c c₁ : Cursor) (i k n : ℕ) → i ≡ suc k → accept c₁ ≡ add_simple_step mode ev Empty c → refuse n ≡ map_fall end c₁ → refuse n ≡ add_times i mode ev end c
-  times_unended end c c₁ i k n e h j = rw (e, times_suc end c k, ← h, ← j)
+  pub times_unended : (end : Option ℕ) (c c₁ : Cursor) (i n : ℕ) → 0 < i → accept c₁ ≡ add_simple_step mode ev Empty c → refuse n ≡ map_fall end c₁ → refuse n ≡ add_times i mode ev end c
+  unfolding add_times add_simples add_optionals map_fall
+  times_unended end c c₁ zero n e h j = absurd (omega arith)
+  times_unended end c c₁ (suc k) n e h j = grind arith
 
   pub times_none : (end : Option ℕ) (c : Cursor) (i : ℕ) → i ≡ 0 → accept c ≡ add_times i mode ev end c
   unfolding add_times add_simples add_optionals
-  times_none none c i e = rw e refl
-  times_none (some n) c i e = rw e refl
+  times_none end c i e = grind arith
 
 -- f shows what a part is; the part at a place that the list has
 module _ {A : Type 0} (f : A → Part) (mode : ℕ) (ps : List A) (d : A) (i : ℕ) (low : i < length ps) (c : Cursor) where
@@ -55,77 +51,64 @@ pub parts_none : {A : Type 0} (f : A → Part) (mode : ℕ) (ps : List A) (i : �
 unfolding add_parts
 parts_none f mode ps i c h = rw (drop_of_length-le ps h)
 
--- A path is the parts before its last, and the last
-module _ (mode : ℕ) (s : Step) (p : Part) where
-  map_split : (ps : List Part) (c : Cursor) → (add_parts mode ps c >>= map_path mode (p ∷ []) s) ≡ map_path mode (ps ++ (p ∷ [])) s c
-  unfolding map_path add_parts
-  map_split [] c = refl
-  map_split (q ∷ ps) c = go (map_split ps) (add_intermediate mode q c) ∙ unroll ps
+-- The path of a mapping or of a prefix: a part before others goes on, and what comes after it is not the whole path. So it is the
+-- parts before its last, and the last, which is the whole path where none is before it.
+module _ (mode : ℕ) (path : Bool → List Part → Cursor → Result Cursor)
+    (goes : (b : Bool) (p q : Part) (ps : List Part) (c : Cursor) → path b (p ∷ q ∷ ps) c ≡ (add_intermediate mode p c >>= path false (q ∷ ps))) where
+  -- a part more before parts for which the law holds
+  part_before : (p q : Part) (ps : List Part) → ((c : Cursor) → (add_parts mode ps c >>= path false (p ∷ [])) ≡ path false (ps ++ (p ∷ [])) c) → (b : Bool) (c : Cursor)
+      → (add_parts mode (q ∷ ps) c >>= path false (p ∷ [])) ≡ path b (q ∷ (ps ++ (p ∷ []))) c
+  unfolding add_parts
+  part_before p q ps ih b c = go (add_intermediate mode q c) ∙ unroll ps
     where
-      go : ((c : Cursor) → (add_parts mode ps c >>= map_path mode (p ∷ []) s) ≡ map_path mode (ps ++ (p ∷ [])) s c) → (r : Result Cursor)
-          → ((r >>= add_parts mode ps) >>= map_path mode (p ∷ []) s) ≡ (r >>= map_path mode (ps ++ (p ∷ [])) s)
-      go ih (accept c) = ih c
-      go ih (refuse n) = refl
+      go : (r : Result Cursor) → ((r >>= add_parts mode ps) >>= path false (p ∷ [])) ≡ (r >>= path false (ps ++ (p ∷ [])))
+      go (accept c) = ih c
+      go (refuse n) = refl
 
-      unroll : (ps : List Part) → (add_intermediate mode q c >>= map_path mode (ps ++ (p ∷ [])) s) ≡ map_path mode (q ∷ (ps ++ (p ∷ []))) s c
-      unroll [] = refl
-      unroll (r ∷ ps) = refl
+      unroll : (ps : List Part) → (add_intermediate mode q c >>= path false (ps ++ (p ∷ []))) ≡ path b (q ∷ (ps ++ (p ∷ []))) c
+      unroll [] = sym (goes b q p [] c)
+      unroll (r ∷ ps) = sym (goes b q r (ps ++ (p ∷ [])) c)
+
+  split : (p : Part) (ps : List Part) (c : Cursor) → (add_parts mode ps c >>= path false (p ∷ [])) ≡ path false (ps ++ (p ∷ [])) c
+  unfolding add_parts
+  split p [] c = refl
+  split p (q ∷ ps) c = part_before p q ps (split p ps) false c
+
+  module _ {A : Type 0} (f : A → Part) (x : A) where
+    there : (xs rest : List A) → xs ≡ rest ++ (x ∷ []) → (c : Cursor) → (add_parts mode (map f rest) c >>= path (eqb (length rest) 0) (f x ∷ [])) ≡ path true (map f xs) c
+    unfolding add_parts
+    there xs [] e c = rw e refl
+    there xs (y ∷ rest) e c = rw (e, map-append f rest (x ∷ []), ne_eqb (suc (length rest)) 0 (λ (z : suc (length rest) ≡ 0). omega arith)) (part_before (f x) (f y) (map f rest) (split (f x) (map f rest)) true c)
+
+    module _ (xs rest : List A) (e : xs ≡ rest ++ (x ∷ [])) (c : Cursor) where
+      whole : (single : Bool) → single ≡ eqb (length rest) 0 → (c₁ : Cursor) → accept c₁ ≡ add_parts mode (map f rest) c → path single (f x ∷ []) c₁ ≡ path true (map f xs) c
+      whole single b c₁ h = rw (← there xs rest e c, b, ← h)
+
+      refused : (n : ℕ) → refuse n ≡ add_parts mode (map f rest) c → refuse n ≡ path true (map f xs) c
+      refused n h = rw (← there xs rest e c, ← h)
 
 module _ {A : Type 0} (f : A → Part) (mode : ℕ) (s : Step) (xs rest : List A) (x : A) (e : xs ≡ rest ++ (x ∷ [])) (c : Cursor) where
-  map_there : (add_parts mode (map f rest) c >>= map_path mode (f x ∷ []) s) ≡ map_path mode (map f xs) s c
-  map_there = rw (e, map-append f rest (x ∷ [])) (map_split mode s (f x) (map f rest) c)
-
   pub map_whole : (c₁ : Cursor) → accept c₁ ≡ add_parts mode (map f rest) c → map_path mode (f x ∷ []) s c₁ ≡ map_path mode (map f xs) s c
-  map_whole c₁ h = rw (← map_there, ← h)
+  unfolding map_path
+  map_whole = whole mode (λ b ps c. map_path mode ps s c) (λ b p q ps c. refl) f x xs rest e c (eqb (length rest) 0) refl
 
   pub map_refused : (n : ℕ) → refuse n ≡ add_parts mode (map f rest) c → refuse n ≡ map_path mode (map f xs) s c
-  map_refused n h = rw (← map_there, ← h)
+  unfolding map_path
+  map_refused = refused mode (λ b ps c. map_path mode ps s c) (λ b p q ps c. refl) f x xs rest e c
 
 pub map_none : {A : Type 0} (f : A → Part) (mode : ℕ) (s : Step) (xs : List A) (c : Cursor) → length xs ≡ 0 → accept c ≡ map_path mode (map f xs) s c
 unfolding map_path
 map_none f mode s [] c h = refl
 map_none f mode s (x ∷ xs) c h = absurd (omega arith)
 
--- what is left of a cursor is its graph
-pub told_graph : (c : Unit {0} → Cursor) (r : Prelude.Result (Unit {0}) Refusal) (x : Result Cursor) → told c r ≡ x → told (λ u. (c u).graph) r ≡ (x >>= (λ c. accept c.graph))
-told_graph c (Ok u) x h = rw (← h)
-told_graph c (Err r) x h = rw (← h)
+module _ {A : Type 0} (f : A → Part) (mode : ℕ) (os : Option Step) (xs rest : List A) (x : A) (e : xs ≡ rest ++ (x ∷ [])) (c : Cursor) where
+  pub prefix_whole : (single : Bool) → single ≡ eqb (length rest) 0 → (c₁ : Cursor) → accept c₁ ≡ add_parts mode (map f rest) c → prefix_path mode single (f x ∷ []) os c₁ ≡ prefix_path mode true (map f xs) os c
+  unfolding prefix_path
+  prefix_whole = whole mode (λ b ps c. prefix_path mode b ps os c) (λ b p q ps c. refl) f x xs rest e c
 
-module _ (mode : ℕ) (os : Option Step) (p : Part) where
-  -- a part more before parts for which the law holds
-  prefix_part : (q : Part) (ps : List Part) → ((c : Cursor) → (add_parts mode ps c >>= prefix_path mode false (p ∷ []) os) ≡ prefix_path mode false (ps ++ (p ∷ [])) os c) → (b : Bool) (c : Cursor)
-      → (add_parts mode (q ∷ ps) c >>= prefix_path mode false (p ∷ []) os) ≡ prefix_path mode b (q ∷ (ps ++ (p ∷ []))) os c
-  unfolding prefix_path add_parts
-  prefix_part q ps ih b c = go (add_intermediate mode q c) ∙ unroll ps
-    where
-      go : (r : Result Cursor) → ((r >>= add_parts mode ps) >>= prefix_path mode false (p ∷ []) os) ≡ (r >>= prefix_path mode false (ps ++ (p ∷ [])) os)
-      go (accept c) = ih c
-      go (refuse n) = refl
-
-      unroll : (ps : List Part) → (add_intermediate mode q c >>= prefix_path mode false (ps ++ (p ∷ [])) os) ≡ prefix_path mode b (q ∷ (ps ++ (p ∷ []))) os c
-      unroll [] = refl
-      unroll (r ∷ ps) = refl
-
-  prefix_split : (ps : List Part) (c : Cursor) → (add_parts mode ps c >>= prefix_path mode false (p ∷ []) os) ≡ prefix_path mode false (ps ++ (p ∷ [])) os c
-  unfolding add_parts
-  prefix_split [] c = refl
-  prefix_split (q ∷ ps) c = prefix_part q ps (prefix_split ps) false c
-
--- the last part is the whole path where none is before it
-module _ {A : Type 0} (f : A → Part) (mode : ℕ) (os : Option Step) (x : A) where
-  prefix_there : (xs rest : List A) → xs ≡ rest ++ (x ∷ []) → (c : Cursor) → (add_parts mode (map f rest) c >>= prefix_path mode (eqb (length rest) 0) (f x ∷ []) os) ≡ prefix_path mode true (map f xs) os c
-  unfolding add_parts
-  prefix_there xs [] e c = rw e refl
-  prefix_there xs (y ∷ rest) e c = rw (e, map-append f rest (x ∷ []), more (length rest)) (prefix_part mode os (f x) (f y) (map f rest) (prefix_split mode os (f x) (map f rest)) true c)
-    where
-      more : (n : ℕ) → eqb (suc n) 0 ≡ false
-      more n = ne_eqb (suc n) 0 (λ (z : suc n ≡ 0). omega arith)
-
-  pub prefix_whole : (xs rest : List A) → xs ≡ rest ++ (x ∷ []) → (single : Bool) → single ≡ eqb (length rest) 0 → (c c₁ : Cursor) → accept c₁ ≡ add_parts mode (map f rest) c → prefix_path mode single (f x ∷ []) os c₁ ≡ prefix_path mode true (map f xs) os c
-  prefix_whole xs rest e single b c c₁ h = rw (← prefix_there xs rest e c, b, ← h)
-
-  pub prefix_refused : (xs rest : List A) → xs ≡ rest ++ (x ∷ []) → (c : Cursor) (n : ℕ) → refuse n ≡ add_parts mode (map f rest) c → refuse n ≡ prefix_path mode true (map f xs) os c
-  prefix_refused xs rest e c n h = rw (← prefix_there xs rest e c, ← h)
+  pub prefix_refused : (n : ℕ) → refuse n ≡ add_parts mode (map f rest) c → refuse n ≡ prefix_path mode true (map f xs) os c
+  unfolding prefix_path
+  prefix_refused = refused mode (λ b ps c. prefix_path mode b ps os c) (λ b p q ps c. refl) f x xs rest e c
 
 pub prefix_none : {A : Type 0} (f : A → Part) (mode : ℕ) (os : Option Step) (xs : List A) (c : Cursor) → length xs ≡ 0 → accept c ≡ prefix_path mode true (map f xs) os c
 unfolding prefix_path

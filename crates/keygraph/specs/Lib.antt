@@ -1,3 +1,2 @@
 -- What the steps of a cursor come to in the values of the rules.
 pub mod Making
-pub mod Props

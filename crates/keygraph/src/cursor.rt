@@ -1,17 +1,19 @@
-// A cursor: where the making of a path stands in a graph that is lent, and how edges are found there. A step is told by the
-// rules' own: where it is accepted, the cursor is what that comes to, and where it is refused, by the same number, only the
-// refusal counts. So steps chained by `?` are the rules' chain. Each step also says that it goes on with the same graph.
+// A cursor: where the making of a path stands in a graph that is lent, and how edges are found there. Each step goes on with the
+// same graph, and is told by the rules' own (`Leads`): where it is accepted, the cursor is what that comes to, and where it is
+// refused, by the same number, only the refusal counts. So steps chained by `?` are the rules' chain.
 ghost use Rattle.std.specs.Prelude.{◌≡◌, ◌<◌, false};
+ghost use Rattle.rules.specs.Basics as b;
 ghost use Rattle.rules.specs.Graph as g;
 ghost use Rattle.rules.specs.Values as v;
-ghost use Rattle.keyvalues.specs.View.{event_at, maybe_of, node_in, told};
-ghost use Rattle.keygraph.specs.Making.{cursor_of, upserted, paid};
+ghost use Rattle.keyvalues.specs.View.{event_of, maybe_of, node_in, told};
+ghost use Rattle.keyparts.specs.View.{graph_of};
 
-use crate::search::{Scan, Search};
 use keyparts::graph::Graph;
-use keyvalues::event;
+use keyparts::search::{Scan, Search};
+use keyvalues::event::EdgeEvent;
 use keyvalues::node::NodeWords;
 use keyvalues::refusal::Refusal;
+use keyvalues::tables::TableWords;
 
 // The node come to, and whether a Fallthrough edge is owed from there.
 #[derive(Clone, Copy)]
@@ -27,61 +29,63 @@ pub(crate) struct Mode {
     ghost bound: { id < 16 },
 }
 
-// An event in a mode.
-#[derive(Clone, Copy)]
-pub(crate) struct Along {
-    pub mode: Mode,
-    pub code: u32,
+impl TryFrom<u16> for Mode {
+    type Error = Refusal;
+
+    ghost try_from_gives = { λ id r. told (λ m. m.id) r ≡ b.unless (v.is_mode id) 1 (b.accept id) };
+
+    fn try_from(id: u16) -> Result<Mode, Refusal> {
+        if TableWords::MODES <= id {
+            return Err(Refusal::OutOfRange);
+        }
+        Ok(Mode { id })
+    }
 }
 
 #[derive(Drop)]
 pub(crate) struct Cursor<'a, S: Search> {
     pub graph: &'a mut Graph,
     pub search: S,
+    pub mode: Mode,
     pub at: Place,
     ghost knows: { S.Knows graph.now search } by { S.one graph.now search },
 }
 
 impl<'a, S: Search> Cursor<'a, S> {
+    ghost use Rattle.keygraph.specs.Making.{Leads, Makes, upserted, paid};
+
     // An edge between any two nodes.
     #[tactic(auto, unfolding(rules::specs::Graph::edge_between))]
-    pub(crate) fn add_edge(&mut self, from: u16, to: u16, code: u32) -> Result<(), Refusal>
-        ensures same_graph { self.new.graph.ghost_name ≡ self.old.graph.ghost_name }
-        ensures leads { told (λ _. cursor_of self.new.graph.now self.new.at) result ≡ g.edge_between from to (event_at code) (cursor_of self.old.graph.now self.old.at) }
+    pub(crate) fn add_edge(&mut self, from: u16, to: u16, event: EdgeEvent) -> Result<(), Refusal>
+        ensures { Leads (g.edge_between from to (event_of event)) self.old result self.new }
     {
-        self.search.add_edge(self.graph, from, to, code)
+        self.graph.add_edge_by(&mut self.search, from, to, event)
     }
 
     // An edge from where the cursor stands.
-    #[tactic(auto, unfolding(rules::specs::Graph::edge_to))]
-    pub(crate) fn edge_to(&mut self, to: u16, code: u32) -> Result<(), Refusal>
-        ensures same_graph { self.new.graph.ghost_name ≡ self.old.graph.ghost_name }
-        ensures leads { told (λ _. cursor_of self.new.graph.now self.new.at) result ≡ g.edge_to to (event_at code) (cursor_of self.old.graph.now self.old.at) }
+    #[tactic(auto, unfolding(rules::specs::Graph::edge_to, rules::specs::Graph::edge_between))]
+    pub(crate) fn edge_to(&mut self, to: u16, event: EdgeEvent) -> Result<(), Refusal>
+        ensures { Leads (g.edge_to to (event_of event)) self.old result self.new }
     {
-        self.search.add_edge(self.graph, self.at.prev, to, code)
+        self.add_edge(self.at.prev, to, event)
     }
 
-    #[tactic(auto, using(keyvalues::proofs::Words::event_fall))]
     pub(crate) fn fall_between(&mut self, from: u16, to: u16) -> Result<(), Refusal>
-        ensures same_graph { self.new.graph.ghost_name ≡ self.old.graph.ghost_name }
-        ensures leads { told (λ _. cursor_of self.new.graph.now self.new.at) result ≡ g.edge_between from to v.Fallthrough (cursor_of self.old.graph.now self.old.at) }
+        ensures { Leads (g.edge_between from to v.Fallthrough) self.old result self.new }
     {
-        self.add_edge(from, to, event::FALLTHROUGH)
+        self.add_edge(from, to, EdgeEvent::Fallthrough)
     }
 
-    #[tactic(auto, using(keyvalues::proofs::Words::event_fall))]
     pub(crate) fn fall_to(&mut self, to: u16) -> Result<(), Refusal>
-        ensures same_graph { self.new.graph.ghost_name ≡ self.old.graph.ghost_name }
-        ensures leads { told (λ _. cursor_of self.new.graph.now self.new.at) result ≡ g.edge_to to v.Fallthrough (cursor_of self.old.graph.now self.old.at) }
+        ensures { Leads (g.edge_to to v.Fallthrough) self.old result self.new }
     {
-        self.edge_to(to, event::FALLTHROUGH)
+        self.edge_to(to, EdgeEvent::Fallthrough)
     }
 
     // The Fallthrough edge that is owed, if one is.
     #[tactic(auto, unfolding(crate::specs::Making::paid))]
     pub(crate) fn pay(&mut self, to: u16) -> Result<(), Refusal>
-        ensures same_graph { self.new.graph.ghost_name ≡ self.old.graph.ghost_name }
-        ensures leads { told (λ _. cursor_of self.new.graph.now self.new.at) result ≡ paid to (cursor_of self.old.graph.now self.old.at) }
+        ensures { Leads (paid to) self.old result self.new }
     {
         if self.at.owed {
             return self.fall_to(to);
@@ -92,8 +96,7 @@ impl<'a, S: Search> Cursor<'a, S> {
     // The Fallthrough edge to the end, if there is one.
     #[tactic(auto, unfolding(rules::specs::Graph::map_fall))]
     pub(crate) fn map_fall(&mut self, end: Option<u16>) -> Result<(), Refusal>
-        ensures same_graph { self.new.graph.ghost_name ≡ self.old.graph.ghost_name }
-        ensures leads { told (λ _. cursor_of self.new.graph.now self.new.at) result ≡ g.map_fall (maybe_of end) (cursor_of self.old.graph.now self.old.at) }
+        ensures { Leads (g.map_fall (maybe_of end)) self.old result self.new }
     {
         match end {
             Some(n) => self.fall_to(n),
@@ -103,68 +106,68 @@ impl<'a, S: Search> Cursor<'a, S> {
 
     // A node more.
     #[tactic(auto, unfolding(rules::specs::Graph::node_for))]
-    pub(crate) fn add_node(&mut self, p: NodeWords) -> Result<u16, Refusal>
-        ensures same_graph { self.new.graph.ghost_name ≡ self.old.graph.ghost_name }
-        ensures makes { told (λ n. (cursor_of self.new.graph.now self.new.at, n)) result ≡ g.node_for (node_in p).mode (node_in p).action (cursor_of self.old.graph.now self.old.at) }
+    pub(crate) fn add_node(&mut self, words: NodeWords) -> Result<u16, Refusal>
+        ensures { Makes (g.node_for (node_in words).mode (node_in words).action) self.old result self.new }
     {
-        self.graph.add_node(p)
+        self.graph.add_node(words)
     }
 
-    #[tactic(auto, using(keyvalues::proofs::Words::mode_fits))]
-    pub(crate) fn add_empty(&mut self, mode: Mode) -> Result<u16, Refusal>
-        ensures same_graph { self.new.graph.ghost_name ≡ self.old.graph.ghost_name }
-        ensures makes { told (λ n. (cursor_of self.new.graph.now self.new.at, n)) result ≡ g.node_for mode.id g.Empty (cursor_of self.old.graph.now self.old.at) }
+    pub(crate) fn add_empty(&mut self) -> Result<u16, Refusal>
+        ensures { Makes (g.node_for self.old.mode.id g.Empty) self.old result self.new }
     {
-        self.add_node(NodeWords::empty(mode.id))
+        self.add_node(NodeWords::empty(self.mode.id))
     }
 
     // The end of the cursor's edge for the event, or else a node more.
     #[tactic(auto, unfolding(crate::specs::Making::upserted, rules::specs::Graph::upsert_node, rules::specs::Graph::upsert_at))]
-    pub(crate) fn upsert_node(&mut self, code: u32, p: NodeWords) -> Result<u16, Refusal>
-        ensures same_graph { self.new.graph.ghost_name ≡ self.old.graph.ghost_name }
-        ensures makes { told (λ n. (cursor_of self.new.graph.now self.new.at, n)) result ≡ upserted (node_in p).mode (event_at code) (node_in p).action (cursor_of self.old.graph.now self.old.at) }
+    pub(crate) fn upsert_node(&mut self, event: EdgeEvent, words: NodeWords) -> Result<u16, Refusal>
+        ensures { Makes (upserted (node_in words).mode (event_of event) (node_in words).action) self.old result self.new }
     {
-        match self.search.get_edge(self.graph, self.at.prev, code) {
+        match self.graph.get_edge_by(&self.search, self.at.prev, event) {
             Some(n) => {
-                self.graph.settle(n, p)?;
+                self.graph.settle(n, words)?;
                 Ok(n)
             }
-            None => self.graph.add_node(p),
+            None => self.graph.add_node(words),
         }
     }
 
     // One step along the event: to the end of its edge, or to a node more; an edge that is owed is paid on the way.
     #[tactic(auto, unfolding(crate::specs::Making::upserted, crate::specs::Making::paid, rules::specs::Graph::edge_to, rules::specs::Graph::add_simple_step))]
-    pub(crate) fn add_simple_step(&mut self, code: u32, p: NodeWords) -> Result<(), Refusal>
-        ensures same_graph { self.new.graph.ghost_name ≡ self.old.graph.ghost_name }
-        ensures leads { told (λ _. cursor_of self.new.graph.now self.new.at) result ≡ g.add_simple_step (node_in p).mode (event_at code) (node_in p).action (cursor_of self.old.graph.now self.old.at) }
+    pub(crate) fn add_simple_step(
+        &mut self,
+        event: EdgeEvent,
+        words: NodeWords,
+    ) -> Result<(), Refusal>
+        ensures { Leads (g.add_simple_step (node_in words).mode (event_of event) (node_in words).action) self.old result self.new }
     {
-        let n = self.upsert_node(code, p)?;
+        let n = self.upsert_node(event, words)?;
         self.pay(n)?;
-        self.edge_to(n, code)?;
+        self.edge_to(n, event)?;
         self.at.prev = n;
         self.at.owed = false;
         Ok(())
     }
 
-    #[tactic(auto, using(keyvalues::proofs::Words::mode_fits))]
-    pub(crate) fn add_simple(&mut self, by: Along) -> Result<(), Refusal>
-        ensures same_graph { self.new.graph.ghost_name ≡ self.old.graph.ghost_name }
-        ensures leads { told (λ _. cursor_of self.new.graph.now self.new.at) result ≡ g.add_simple_step by.mode.id (event_at by.code) g.Empty (cursor_of self.old.graph.now self.old.at) }
+    pub(crate) fn add_simple(&mut self, event: EdgeEvent) -> Result<(), Refusal>
+        ensures { Leads (g.add_simple_step self.old.mode.id (event_of event) g.Empty) self.old result self.new }
     {
-        self.add_simple_step(by.code, NodeWords::empty(by.mode.id))
+        self.add_simple_step(event, NodeWords::empty(self.mode.id))
     }
 }
 
 impl<'a> Cursor<'a, Scan> {
+    ghost use Rattle.keygraph.specs.Making.{cursor_of};
+
     // At the root of the mode, with nothing owed.
     pub(crate) fn start(graph: &'a mut Graph, mode: Mode) -> Cursor<'a, Scan>
         ensures same_graph { result.graph.ghost_name ≡ graph.entry.ghost_name }
-        ensures starts { (result.graph.now ≡ graph.old) × (result.at ≡ record { prev = mode.id; owed = false }) }
+        ensures starts { (result.mode ≡ mode) × (cursor_of result ≡ g.cursor (graph_of graph.old) mode.id false) }
     {
         Cursor {
             graph,
             search: Scan {},
+            mode,
             at: Place {
                 prev: mode.id,
                 owed: false,

@@ -1,6 +1,6 @@
-// The key graph: adding bindings to it, in place. A function that has the name of a definition of
-// crates/rules/specs/Graph.antt is proved equal to it, by the views of the crates below; what the others do is said in the same
-// terms. A step that is refused hands the refusal on by `?`, as the rules' steps do.
+// The key graph: adding bindings to it, in place. A path is made by the steps of a cursor, each of which is proved to be the step
+// of that name in crates/rules/specs/Graph.antt, or is said by those. A step that is refused hands the refusal on by `?`, as the
+// rules' steps do, so the chain of them is the rules' `add_mapping` or `add_prefix`.
 //
 // What a graph is made of, and what is read from it or stored in it alone, stands in the crates below.
 #![tactic(auto)]
@@ -9,5 +9,3 @@ mod cursor;
 pub mod mapping;
 pub mod prefix;
 mod repeat;
-mod search;
-mod valid;

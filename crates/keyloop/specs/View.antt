@@ -26,7 +26,7 @@ link_navigator gr ix = record {
 }
 
 abbrev pub navigator_of : IndexedMap → key.Navigator ℕ
-navigator_of m = link_navigator m.graph.now m.index.now
+navigator_of m = link_navigator m.indexed.graph.now m.indexed.index.now
 
 abbrev pub result_by : InputResult → key.InputResult
 result_by Again = key.Again

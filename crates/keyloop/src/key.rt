@@ -1,18 +1,17 @@
 // One key, in place. The keys still to try are a stack, whose top is the next one.
-ghost use Rattle.std.specs.Prelude.{◌≡◌, ◌+◌, ◌-◌, ◌/◌, ◌<◌, ◌≤◌, length, min, take};
+ghost use Rattle.std.specs.Prelude.{◌≡◌, ◌+◌, ◌-◌, ◌<◌, ◌≤◌, take};
 ghost use Rattle.rules.specs.KeyLoop as rules;
 ghost use Rattle.keyvalues.specs.View.{told};
 ghost use Rattle.keytables.specs.View.{tables_of};
 ghost use Rattle.keypairs.specs.View.{live_of};
-ghost use Rattle.keyloop.specs.Stack.{keys_of};
+ghost use Rattle.keyloop.specs.Stack.{keys_of, Room};
 ghost use Rattle.keyloop.specs.View.{navigator_of, key_of};
 
 use crate::stack::Stack;
 use crate::turn;
 use crate::turn::InputResult;
 use keypairs::live::Live;
-use keyparts::graph::Graph;
-use keyparts::index::Index;
+use keyparts::index::IndexedGraph;
 use keyvalues::refusal::Refusal;
 use keyvalues::tables::TableWords;
 
@@ -20,23 +19,26 @@ use keyvalues::tables::TableWords;
 // the edges do.
 #[derive(Clone, Copy)]
 pub struct IndexedMap<'a> {
-    pub graph: &'a Graph,
-    pub index: &'a Index,
+    pub indexed: IndexedGraph<'a>,
     pub tables: &'a TableWords,
 }
+
+// A key from here on decomposes, into a first key and what is left of it.
+const COMPOSED: u16 = 32768;
+
+const FIRST_KEY: u16 = 27;
 
 // What is left of a key that decomposes.
 fn rest_of(key: u16) -> u16
     requires { 32768 ≤ key }
     ensures { (result ≡ key - 32768) × (result < 32768) }
 {
-    key - 32768
+    key - COMPOSED
 }
 
 // One round: the keys to try after it are left on the stack.
 fn round(map: &IndexedMap, live: &mut Live, stack: &mut Stack, key: u16) -> Result<(), Refusal>
-    requires one { 1 + min 1 (key / 32768) + length (keys_of stack.old) ≤ 129 }
-    requires all { length (take live.old.state.trailed live.old.trail) + length (keys_of stack.old) ≤ 129 }
+    requires { Room key (keys_of stack.old) (take live.old.state.trailed live.old.trail) }
     ensures { told (λ _. (keys_of stack.new, live_of (tables_of map.now.tables.now) live.new)) result ≡ rules.round (navigator_of map.now) key (keys_of stack.old) (live_of (tables_of map.now.tables.now) live.old) }
 {
     match turn::turn(map, live, key) {
@@ -69,21 +71,21 @@ fn round(map: &IndexedMap, live: &mut Live, stack: &mut Stack, key: u16) -> Resu
 
 // A key with no binding decomposes, or its trail is tried again without its first.
 fn unmapped(map: &IndexedMap, live: &mut Live, stack: &mut Stack, key: u16) -> Result<(), Refusal>
-    requires one { 1 + min 1 (key / 32768) + length (keys_of stack.old) ≤ 129 }
-    requires all { length (take live.old.state.trailed live.old.trail) + length (keys_of stack.old) ≤ 129 }
+    requires { Room key (keys_of stack.old) (take live.old.state.trailed live.old.trail) }
     ensures { told (λ _. (keys_of stack.new, live_of (tables_of map.now.tables.now) live.new)) result ≡ rules.after (navigator_of map.now) rules.Unmapped key (keys_of stack.old) (live_of (tables_of map.now.tables.now) live.old) }
 {
-    if key >= 32768 {
+    if key >= COMPOSED {
         stack.push(rest_of(key));
-        stack.push(27);
+        stack.push(FIRST_KEY);
         return Ok(());
     }
     stack.put_back(live.on_trail(), key);
     live.clear_trail();
-    live.unmapped_or_scratch(map.graph, map.tables)
+    live.unmapped_or_scratch(map.indexed.graph, map.tables)
 }
 
 // One key, with the rounds that were made. Refused, the lent live state is scratch: the refusal and the rounds alone count.
+#[tactic(auto, using(crate::proofs::Loop::loop_stop, crate::proofs::Loop::loop_out, crate::proofs::Loop::loop_done))]
 pub fn input_key_or_scratch(
     map: &IndexedMap,
     live: &mut Live,
@@ -92,7 +94,7 @@ pub fn input_key_or_scratch(
 ) -> (u16, Result<(), Refusal>)
     ensures { key_of result (live_of (tables_of map.now.tables.now) live.new) ≡ rules.input_key (navigator_of map.now) (record { key = first; budget = budget }) (live_of (tables_of map.now.tables.now) live.old) }
 {
-    // At most 64 keys are on the trail, so that the stack has room for all.
+    // Read for its promise alone: at most 64 keys are on the trail, so that the stack has room for all.
     let _trail = live.on_trail();
     let mut stack = Stack::of(first);
     for rounds in 0..budget {

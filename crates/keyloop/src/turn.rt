@@ -59,23 +59,22 @@ fn land(node: Node, to: u16) -> InputResult
     }
 }
 
+#[tactic(auto, unfolding(crate::specs::View::link_navigator, rules::specs::Calls::turn_by, rules::specs::KeyLoop::run_hook))]
 pub(crate) fn turn(map: &IndexedMap, live: &mut Live, key: u16) -> InputResult
     ensures told { result_by result ≡ (turn_of map.now key live.old).result }
     ensures left { let x = turn_of map.now key live.old in live_of (tables_of map.now.tables.now) live.new ≡ rules.at x.place (rules.run_hook x.event key (shared_of (tables_of map.now.tables.now) live.old)) }
 {
     let place = live.state.place;
-    match map
-        .graph
-        .follow(map.index, map.tables.classes(), place, key)
-    {
+    let graph = map.indexed.graph;
+    match map.indexed.follow(map.tables.classes(), place, key) {
         FollowResult::Successor(event, to) => {
-            live.state.place = to;
-            live.state.context = live.state.context.event(event, key);
-            arrive(map.graph, map.graph.node(to), to)
+            live.come_to(to);
+            live.hook(event, key);
+            arrive(graph, graph.node(to), to)
         }
         FollowResult::Fallthrough(to) => {
-            live.state.place = to;
-            land(map.graph.node(to), to)
+            live.come_to(to);
+            land(graph.node(to), to)
         }
         FollowResult::NoSuccessor => InputResult::Unmapped,
     }

@@ -1,11 +1,17 @@
--- The calls on a machine by value, against `call`.
+-- `call` hands back the machine before it where its work was refused, and else the one that it came to: so does each call here.
 use Prim.Native.Nat.{ℕ}
 use mathlib.Core.Path.{◌≡◌}
 use mathlib.Core.Bool.{true, false, Bool}
 use Rattle.rules.specs.Basics.{accept, refuse, unless}
 use Rattle.rules.specs.Tables.{Tables, tables_valid}
 use Rattle.rules.specs.KeyLoop.{State, KeyResult, Input, input_key, reset_mode}
-use Rattle.rules.specs.Calls.{Machine, Accepted, Refused, Pressed, PressRefused, with_state, fresh, open_with, settled, pressed, key_call, reset_call, call, Open, Press, Reset, graph_kind, graph_navigator}
+use Rattle.std.specs.Prelude
+use Rattle.std.specs.Prelude.{Ok, Err}
+use Rattle.std.specs.Result.{is_ok}
+use Rattle.keyvalues.specs.declared.refusal.Refusal.{Refusal}
+use Rattle.keyvalues.specs.View.{told}
+use Rattle.keymachine.specs.View.{press_of}
+use Rattle.rules.specs.Calls.{Machine, Accepted, Refused, with_state, fresh, open_with, settled, pressed, key_call, reset_call, call, Open, Press, Reset, graph_kind, graph_navigator}
 
 -- ---- open
 
@@ -28,14 +34,20 @@ module _ (s : Machine graph_kind) (t : Tables) where
 
 -- ---- key
 
-module _ (s : Machine graph_kind) (i : Input) (rounds : ℕ) where
-  pub press_refused : (n : ℕ) → ◌≡◌ {A = KeyResult ℕ} (record { rounds = rounds; result = refuse n }) (input_key (graph_navigator s.bindings) i s.state) → (s, PressRefused n rounds) ≡ call graph_kind s (Press i)
-  unfolding call key_call pressed
-  press_refused n e = rw (← e)
+-- what the rounds of a key came to, where x is the state that they left
+module _ (s : Machine graph_kind) (i : Input) (rounds : ℕ) (x : State ℕ) where
+  abbrev pub Came : Prelude.Result (Unit {0}) Refusal → Type 0
+  Came r = ◌≡◌ {A = KeyResult ℕ} (record { rounds = rounds; result = told (λ _. x) r }) (input_key (graph_navigator s.bindings) i s.state)
 
-  pub press_done : (x : State ℕ) → ◌≡◌ {A = KeyResult ℕ} (record { rounds = rounds; result = accept x }) (input_key (graph_navigator s.bindings) i s.state) → (with_state graph_kind s x, Pressed rounds) ≡ call graph_kind s (Press i)
+  pub press_done : (r : Prelude.Result (Unit {0}) Refusal) → Came r → true ≡ is_ok r → (with_state graph_kind s x, press_of (rounds, r)) ≡ call graph_kind s (Press i)
   unfolding call key_call pressed
-  press_done x e = rw (← e)
+  press_done (Ok u) e h = rw (← e)
+  press_done (Err n) e h = cc
+
+  pub press_refused : (r : Prelude.Result (Unit {0}) Refusal) → Came r → false ≡ is_ok r → (s, press_of (rounds, r)) ≡ call graph_kind s (Press i)
+  unfolding call key_call pressed
+  press_refused (Ok u) e h = cc
+  press_refused (Err n) e h = rw (← e)
 
 -- ---- reset
 

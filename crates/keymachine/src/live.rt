@@ -4,23 +4,24 @@ ghost use Rattle.std.specs.Prelude.{◌≡◌, List};
 ghost use Rattle.rules.specs.Values.{Binding};
 ghost use Rattle.rules.specs.Graph.{Graph as Bindings};
 ghost use Rattle.rules.specs.Calls.{graph_kind, call, Press, Reset};
+ghost use Rattle.keyvalues.specs.View.{said_of};
 ghost use Rattle.keyparts.specs.View.{graph_of};
 ghost use Rattle.keytables.specs.View.{tables_of};
-ghost use Rattle.keypairs.specs.View.{machine_by, said_of};
+ghost use Rattle.keypairs.specs.View.{machine_by};
 ghost use Rattle.keymachine.specs.View.{press_of};
 
 use keyloop::key;
 use keyloop::key::IndexedMap;
 use keypairs::live::Live;
 use keyparts::graph::Graph;
-use keyparts::index::Index;
+use keyparts::index::{Index, IndexedGraph};
 use keyvalues::refusal::Refusal;
 use keyvalues::tables::TableWords;
 
 // One key, and the rounds that were made. A machine is any value of its struct, so no index is kept in it.
-pub fn input_key(
-    graph: &Graph,
-    tables: &TableWords,
+pub fn input_key<'a>(
+    graph: &'a Graph,
+    tables: &'a TableWords,
     live: &mut Live,
     key: u16,
     budget: u16,
@@ -28,20 +29,17 @@ pub fn input_key(
     ensures { (ks : List Binding) → (machine_by (graph_of graph.now) ks (tables_of tables.now) live.new, press_of result) ≡ call graph_kind (machine_by (graph_of graph.now) ks (tables_of tables.now) live.old) (Press (record { key = key; budget = budget })) }
 {
     let index = Index::new(graph);
-    let map = IndexedMap {
+    let indexed = IndexedGraph {
         graph,
         index: &index,
-        tables,
     };
+    let map = IndexedMap { indexed, tables };
     let mut next = *live;
-    let (rounds, answer) = key::input_key_or_scratch(&map, &mut next, key, budget);
-    match answer {
-        Ok(()) => {
-            *live = next;
-            (rounds, Ok(()))
-        }
-        Err(refusal) => (rounds, Err(refusal)),
+    let pressed = key::input_key_or_scratch(&map, &mut next, key, budget);
+    if pressed.1.is_ok() {
+        *live = next;
     }
+    pressed
 }
 
 // Mode 0 is entered and every sequence broken. The trail is kept.
@@ -50,11 +48,7 @@ pub fn reset_mode(tables: &TableWords, live: &mut Live) -> Result<(), Refusal>
 {
     let mut entered = *live;
     entered.break_all();
-    match entered.goto_mode_or_scratch(tables, 0) {
-        Ok(()) => {
-            *live = entered;
-            Ok(())
-        }
-        Err(refusal) => Err(refusal),
-    }
+    entered.goto_mode_or_scratch(tables, 0)?;
+    *live = entered;
+    Ok(())
 }

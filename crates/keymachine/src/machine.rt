@@ -1,12 +1,12 @@
 // The modal machine by value: each call takes a machine and hands back the machine after it, with the answer. A refused call
-// hands back the machine before it.
+// hands back the machine before it. What only reads is lent the machine.
 ghost use Rattle.std.specs.Prelude.{◌≡◌, List};
 ghost use Rattle.rules.specs.Tables.{no_tables};
 ghost use Rattle.rules.specs.Calls.{graph_kind, call, fresh, mode_call, Open, Press, Pop, Repeats, Reset, HintFits, find};
-ghost use Rattle.keyvalues.specs.View.{told, maybe_of};
+ghost use Rattle.keyvalues.specs.View.{told, maybe_of, said_of};
 ghost use Rattle.keyparts.specs.View.{graph_of};
 ghost use Rattle.keytables.specs.View.{whole_tables, tables_of};
-ghost use Rattle.keypairs.specs.View.{over_of, said_of, pop_of};
+ghost use Rattle.keypairs.specs.View.{over_of, pop_of};
 ghost use Rattle.keptcalls.specs.declared.words.CallWords.{CallWords};
 ghost use Rattle.keybind.specs.View.{map_kept};
 ghost use Rattle.keymachine.specs.View.{machine_of, press_of};
@@ -16,7 +16,6 @@ use keybind::map::Map;
 use keypairs::context::Context;
 use keypairs::live::Live;
 use keypairs::pair::Pair;
-use keyparts::graph::Graph;
 use keytables::tables::Tables;
 use keyvalues::refusal::Refusal;
 use keyvalues::tables::TableWords;
@@ -30,14 +29,11 @@ pub struct ModalMachine {
 
 impl ModalMachine {
     // The fresh machine with no tables: mode 0, no pair, no trail, no binding.
+    #[tactic(auto, unfolding(rules::specs::Tables::no_tables))]
     pub fn fresh() -> ModalMachine
         ensures { (ws : List CallWords) → machine_of ws result ≡ fresh graph_kind no_tables }
     {
-        ModalMachine::over(Map {
-            graph: Graph::fresh(),
-            tables: TableWords::EMPTY,
-            kept: 0,
-        })
+        ModalMachine::over(Map::fresh(TableWords::EMPTY))
     }
 
     // The fresh machine over a map.
@@ -51,57 +47,51 @@ impl ModalMachine {
     }
 
     // The fresh machine with the tables. Refused, the machine as it was.
+    #[tactic(auto, using(crate::proofs::Calls::opened, crate::proofs::Calls::not_opened))]
     pub fn open(self, tables: Tables) -> (ModalMachine, Result<(), Refusal>)
         ensures { (ws : List CallWords) → (machine_of ws result.0, said_of result.1) ≡ call graph_kind (machine_of ws self) (Open (whole_tables tables)) }
     {
         match tables.pack() {
-            Ok(words) => {
-                let map = Map {
-                    graph: Graph::fresh(),
-                    tables: words,
-                    kept: 0,
-                };
-                (ModalMachine::over(map), Ok(()))
-            }
+            Ok(words) => (ModalMachine::over(Map::fresh(words)), Ok(())),
             Err(refusal) => (self, Err(refusal)),
         }
     }
 
     // One key, and the rounds that were made.
-    pub fn input_key(self, key: u16, budget: u16) -> (ModalMachine, (u16, Result<(), Refusal>))
+    pub fn input_key(mut self, key: u16, budget: u16) -> (ModalMachine, (u16, Result<(), Refusal>))
         ensures { (ws : List CallWords) → (machine_of ws result.0, press_of result.1) ≡ call graph_kind (machine_of ws self) (Press (record { key = key; budget = budget })) }
     {
-        let mut m = self;
-        let r = &mut m;
-        let answer = live::input_key(&r.map.graph, &r.map.tables, &mut r.live, key, budget);
-        (m, answer)
+        let m = &mut self;
+        let answer = live::input_key(&m.map.graph, &m.map.tables, &mut m.live, key, budget);
+        (self, answer)
     }
 
     // The first waiting pair, if there is one.
-    pub fn pop(self) -> (ModalMachine, Option<Pair>)
+    pub fn pop(mut self) -> (ModalMachine, Option<Pair>)
         ensures { (ws : List CallWords) → (machine_of ws result.0, pop_of result.1) ≡ call graph_kind (machine_of ws self) Pop }
     {
-        let mut m = self;
-        let answer = m.live.pop();
-        (m, answer)
+        let answer = self.live.pop();
+        (self, answer)
     }
 
     // Mode 0 is entered and every sequence broken. The trail is kept.
-    pub fn reset_mode(self) -> (ModalMachine, Result<(), Refusal>)
+    pub fn reset_mode(mut self) -> (ModalMachine, Result<(), Refusal>)
         ensures { (ws : List CallWords) → (machine_of ws result.0, said_of result.1) ≡ call graph_kind (machine_of ws self) Reset }
     {
-        let mut m = self;
-        let answer = live::reset_mode(&m.map.tables, &mut m.live);
-        (m, answer)
+        let answer = live::reset_mode(&self.map.tables, &mut self.live);
+        (self, answer)
     }
 
     // The remembered pairs of the sequence, overridden and stored again, go before the queue.
-    pub fn repeat(self, sequence: u16, over: Option<Context>) -> (ModalMachine, Result<(), Refusal>)
+    pub fn repeat(
+        mut self,
+        sequence: u16,
+        over: Option<Context>,
+    ) -> (ModalMachine, Result<(), Refusal>)
         ensures { (ws : List CallWords) → (machine_of ws result.0, said_of result.1) ≡ call graph_kind (machine_of ws self) (Repeats sequence (over_of over)) }
     {
-        let mut m = self;
-        let answer = m.live.repeat(sequence, over);
-        (m, answer)
+        let answer = self.live.repeat(sequence, over);
+        (self, answer)
     }
 
     // The entered mode.

@@ -1,5 +1,8 @@
--- A machine that is opened by a map; a binding that is read and then called; and a repeat with any count.
-use Prim.Native.Nat.{ℕ, ◌≤◌, ◌<◌}
+-- A machine that is opened by a map; a binding that is read and then called; a repeat with any count; and a key's answer.
+use Rattle.std.specs.Prelude as Prelude
+use Rattle.std.specs.Prelude.{Ok, Err}
+use Prim.Native.Nat.{ℕ, ◌+◌, ◌*◌, ◌≤◌, ◌<◌}
+use native.Mathlib.Omega.{arith}
 use mathlib.Core.Path.{◌≡◌, sym, ap}
 use mathlib.Core.Bool.{Bool}
 use mathlib.Core.Option.{some}
@@ -9,7 +12,10 @@ use Rattle.rules.specs.Basics.{Result, accept, refuse, ◌>>=◌, unless}
 use Rattle.rules.specs.Values.{Binding}
 use Rattle.rules.specs.Calls.{Machine, graph_kind, bind, settled, repeat_call, call, Repeats, Answer, Accepted, Refused}
 use Rattle.rules.specs.MapFile.{read_binding, at_end, read_map}
-use Rattle.keymap.specs.Codes.{coded, open_map, bind_map, repeat_over}
+use Rattle.keyvalues.specs.declared.refusal.Refusal.{Refusal}
+use Rattle.keyvalues.specs.View.{said_of}
+use Rattle.keymachine.specs.View.{press_of}
+use Rattle.keymap.specs.Codes.{answer_code, open_map, bind_map, repeat_over}
 
 module _ (m : Machine graph_kind) (bs : List ℕ) where
   -- a map that is refused leaves the machine
@@ -30,20 +36,21 @@ module _ (m : Machine graph_kind) (bs : List ℕ) where
   unfolding settled
   not_read n e = ap (λ r. settled graph_kind m (called r)) e
 
-  -- and one that is read is called
-  pub is_read : (b : Binding) → accept b ≡ at_end (read_binding bs) → settled graph_kind m (bind graph_kind b m) ≡ bind_map m bs
-  is_read b e = ap (λ r. settled graph_kind m (called r)) e
-
 module _ (m : Machine graph_kind) (q count mark : ℕ) where
   abbrev by : Bool → Machine graph_kind × Answer
   by b = settled graph_kind m (unless b 1 (repeat_call graph_kind q (some (record { count = count; mark = mark })) m))
 
   -- a count over the largest number leaves the machine
-  pub too_many : 65535 < count → (m, 1) ≡ coded (repeat_over m q count mark)
+  pub too_many : 65535 < count → (m, Refused 1) ≡ repeat_over m q count mark
   unfolding settled
-  too_many h = sym (ap (λ b. coded (by b)) (lt-leb count 65535 h))
+  too_many h = sym (ap by (lt-leb count 65535 h))
 
   -- else it is the rules' call
   pub few_enough : count ≤ 65535 → call graph_kind m (Repeats q (some (record { count = count; mark = mark }))) ≡ repeat_over m q count mark
   unfolding call
   few_enough h = sym (ap by (le-leb count 65535 h))
+
+-- the rounds, and the refusal's number more
+pub pressed : (rounds : ℕ) (r : Prelude.Result (Unit {0}) Refusal) → rounds * 32 + answer_code (said_of r) ≡ answer_code (press_of (rounds, r))
+pressed rounds (Ok u) = omega arith
+pressed rounds (Err e) = omega arith

@@ -1,11 +1,14 @@
 -- The numbers that C gets for the answers of the rules, and the calls that C makes with other arguments than the rules' calls.
-use Rattle.std.specs.Prelude.{ℕ, ◌+◌, ◌*◌, ◌≡◌, List, leb}
+use Rattle.std.specs.Prelude as Prelude
+use Rattle.std.specs.Prelude.{Ok, Err, ℕ, ◌+◌, ◌*◌, ◌≡◌, List, leb}
 use Rattle.std.proofs.Math.Option.{Option, none, some}
 use Rattle.rules.specs.Basics.{Result, accept, refuse, ◌>>=◌, unless}
 use Rattle.rules.specs.Values.{largest}
 use Rattle.rules.specs.Graph.{Graph}
 use Rattle.rules.specs.Calls.{Machine, graph_kind, bind, settled, repeat_call, Answer, Accepted, Refused, Popped, Nothing, Pressed, PressRefused, HintFits}
 use Rattle.rules.specs.MapFile.{read_binding, at_end, read_map}
+use Rattle.keyvalues.specs.declared.refusal.Refusal.{Refusal}
+use Rattle.keyvalues.specs.View.{number_of}
 
 -- ---- answers
 
@@ -18,6 +21,11 @@ answer_code (Popped p) = p.action + p.context.count * 65536 + p.context.mark * 4
 answer_code Nothing = 0
 answer_code (Pressed rounds) = rounds * 32
 answer_code (PressRefused n rounds) = rounds * 32 + n
+
+-- the number of what was answered, or of the refusal
+abbrev pub or_refusal : Prelude.Result ℕ Refusal → ℕ
+or_refusal (Ok n) = n
+or_refusal (Err r) = number_of r
 
 -- what a call leaves, and its answer's number
 abbrev pub coded : Machine graph_kind × Answer → Machine graph_kind × ℕ

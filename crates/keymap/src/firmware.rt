@@ -1,5 +1,5 @@
 // What C calls. `keymap.h` says what it lends. Each call on the one scanner that C keeps is that of lent.rt, with its answer as a
-// number.
+// number; beside them stand the bytes of a scanner, and the run, which needs none.
 ghost use Rattle.std.specs.Prelude.{◌≡◌, length};
 ghost use Rattle.std.proofs.Math.Option.{none};
 ghost use Rattle.rules.specs.Calls.{graph_kind, call, mode_call, Press, Pop, Repeats, Reset, find};
@@ -10,9 +10,7 @@ ghost use Rattle.keymap.specs.Codes.{coded, open_map, bind_map, repeat_over, fin
 
 use crate::{codes, lent};
 use keymachine::scanner::Scanner;
-use keypairs::context::Context;
 use mapfile::run;
-use mapwrite::map;
 
 // The bytes that C lends for a scanner.
 pub fn keymap_size() -> usize
@@ -32,7 +30,7 @@ pub fn keymap_open(m: &mut Scanner, map: &[u8]) -> u64
 pub fn keymap_bind(m: &mut Scanner, binding: &[u8]) -> u64
     ensures { (scanner_of m.new, result) ≡ coded (bind_map (scanner_of m.old) binding.now) }
 {
-    codes::answer_code(lent::bind(m, binding))
+    codes::answer_code(lent::bind_file(m, binding))
 }
 
 pub fn keymap_key(m: &mut Scanner, key: u16, budget: u16) -> u64
@@ -53,18 +51,10 @@ pub fn keymap_repeat(m: &mut Scanner, sequence: u16) -> u64
     codes::answer_code(lent::repeat(m, sequence, None))
 }
 
-// A count that is no number of the rules is refused.
 pub fn keymap_repeat_over(m: &mut Scanner, sequence: u16, count: u32, mark: u16) -> u64
     ensures { (scanner_of m.new, result) ≡ coded (repeat_over (scanner_of m.old) sequence count mark) }
 {
-    if 65535 < count {
-        return 1;
-    }
-    let over = Context {
-        count: count as u16,
-        mark: mark,
-    };
-    codes::answer_code(lent::repeat(m, sequence, Some(over)))
+    codes::answer_code(lent::repeat_over(m, sequence, count, mark))
 }
 
 pub fn keymap_reset(m: &mut Scanner) -> u64
@@ -92,17 +82,17 @@ pub fn keymap_free(m: &Scanner) -> u64
     (lent::free_nodes(m) as u64) * 32
 }
 
-// The map file of the machine: its tables and the binding calls that it kept. Length × 32 + refusal; accepted, the bytes stand
-// in front of the output and the rest of it stays; refused, all of it is zeros.
+// The length × 32, or the refusal. Accepted, the bytes stand in front of the output and the rest of it stays; refused, all of it
+// is zeros. So too of a run.
 pub fn keymap_write(m: &Scanner, output: &mut [u8]) -> u64
     ensures { (result, output.new) ≡ write_call graph_kind (scanner_of m.now) output.old }
 {
-    map::write_map(&m.kept, m.machine.map.kept, &m.machine.map.tables, output)
+    codes::length_code(lent::write(m, output))
 }
 
 // A map and keys at once, without a scanner.
 pub fn keymap_run(map: &[u8], keys: &[u8], output: &mut [u8], budget: u16) -> u64
     ensures { (result, output.new) ≡ answered pair_bytes output.old (run map.now keys.now budget (length output.old)) }
 {
-    run::run(map, keys, output, budget)
+    codes::length_code(run::run(map, keys, output, budget))
 }

@@ -1,25 +1,31 @@
 // One scanner, lent to each call. Each function changes or looks at the part of it that its call is about, and a refused call
 // leaves the machine as it was.
-ghost use Rattle.std.specs.Prelude.{◌≡◌};
-ghost use Rattle.rules.specs.Calls.{graph_kind, call, mode_call, Open, Map, Prefix, Press, Pop, Repeats, Reset, HintFits, find};
-ghost use Rattle.keyvalues.specs.View.{whole_path, whole_step, whole_steps, maybe_of, told};
+ghost use Rattle.std.specs.Prelude.{◌≡◌, ◌≤◌, min, length, IfOk};
+ghost use Rattle.rules.specs.Calls.{graph_kind, call, mode_call, bind, settled, Open, Press, Pop, Repeats, Reset, HintFits, find};
+ghost use Rattle.rules.specs.Writing.{write_call};
+ghost use Rattle.keyvalues.specs.View.{maybe_of, told, said_of};
 ghost use Rattle.keytables.specs.View.{whole_tables};
-ghost use Rattle.keypairs.specs.View.{over_of, said_of, pop_of};
+ghost use Rattle.keptcalls.specs.View.{binding_in};
+ghost use Rattle.keypairs.specs.View.{over_of, pop_of};
 ghost use Rattle.keymachine.specs.View.{scanner_of, press_of};
-ghost use Rattle.keymap.specs.Codes.{open_map, bind_map};
+ghost use Rattle.mapparts.specs.View.{length_code};
+ghost use Rattle.keymap.specs.Codes.{open_map, bind_map, repeat_over};
 
+use keptcalls::binding::Binding;
+use keptcalls::words;
 use keptcalls::words::CallWords;
+use keybind::map::Map;
 use keymachine::live;
 use keymachine::machine::ModalMachine;
 use keymachine::scanner::Scanner;
 use keypairs::context::Context;
 use keypairs::pair::Pair;
 use keytables::tables::Tables;
-use keyvalues::path::EdgePath;
 use keyvalues::refusal::Refusal;
-use keyvalues::step::Step;
+use keyvalues::tables::TableWords;
 use mapfile::map as file;
 use mapparts::binding;
+use mapwrite::map;
 
 pub fn open(m: &mut Scanner, tables: Tables) -> Result<(), Refusal>
     ensures { (scanner_of m.new, said_of result) ≡ call graph_kind (scanner_of m.old) (Open (whole_tables tables)) }
@@ -36,42 +42,28 @@ pub fn open_file(m: &mut Scanner, map: &[u8]) -> Result<(), Refusal>
     ensures { (scanner_of m.new, said_of result) ≡ open_map (scanner_of m.old) map.now }
 {
     let mut kept = [CallWords::EMPTY; CallWords::KEPT as usize];
-    let read = file::read_map(map, &mut kept)?;
+    let mut read = Map::fresh(TableWords::EMPTY);
+    file::read_map_or_scratch(map, &mut kept, &mut read)?;
+    words::copy_calls(&mut m.kept, &kept, read.kept);
     m.machine = ModalMachine::over(read);
-    m.kept = kept;
     Ok(())
+}
+
+// One binding more.
+pub fn bind(m: &mut Scanner, call: &Binding) -> Result<(), Refusal>
+    ensures { (scanner_of m.new, said_of result) ≡ settled graph_kind (scanner_of m.old) (bind graph_kind (binding_in call.now) (scanner_of m.old)) }
+{
+    let (map, answer) = m.machine.map.bind(&mut m.kept, call);
+    m.machine.map = map;
+    answer
 }
 
 // One binding of a map file more. It is read to its end before it is called.
 #[tactic(auto, using(crate::proofs::Numbers::not_read))]
-pub fn bind(m: &mut Scanner, binding: &[u8]) -> Result<(), Refusal>
+pub fn bind_file(m: &mut Scanner, binding: &[u8]) -> Result<(), Refusal>
     ensures { (scanner_of m.new, said_of result) ≡ bind_map (scanner_of m.old) binding.now }
 {
-    let call = binding::read_alone(binding)?;
-    let (map, answer) = m.machine.map.bind(&mut m.kept, &call);
-    m.machine.map = map;
-    answer
-}
-
-pub fn add_mapping(m: &mut Scanner, mode: u16, path: EdgePath, step: Step) -> Result<(), Refusal>
-    ensures { (scanner_of m.new, said_of result) ≡ call graph_kind (scanner_of m.old) (Map mode (whole_path path) (whole_step step)) }
-{
-    let (map, answer) = m.machine.map.add_mapping(&mut m.kept, mode, path, step);
-    m.machine.map = map;
-    answer
-}
-
-pub fn add_prefix(
-    m: &mut Scanner,
-    mode: u16,
-    path: EdgePath,
-    step: Option<Step>,
-) -> Result<(), Refusal>
-    ensures { (scanner_of m.new, said_of result) ≡ call graph_kind (scanner_of m.old) (Prefix mode (whole_path path) (whole_steps step)) }
-{
-    let (map, answer) = m.machine.map.add_prefix(&mut m.kept, mode, path, step);
-    m.machine.map = map;
-    answer
+    bind(m, &binding::read_alone(binding)?)
 }
 
 // The answer with the rounds that were made.
@@ -99,13 +91,22 @@ pub fn repeat(m: &mut Scanner, sequence: u16, over: Option<Context>) -> Result<(
     m.machine.live.repeat(sequence, over)
 }
 
+// A count that is no number of the rules is refused.
+#[tactic(auto, using(crate::proofs::Numbers::too_many, crate::proofs::Numbers::few_enough))]
+pub fn repeat_over(m: &mut Scanner, sequence: u16, count: u32, mark: u16) -> Result<(), Refusal>
+    ensures { (scanner_of m.new, said_of result) ≡ repeat_over (scanner_of m.old) sequence count mark }
+{
+    let count = u16::try_from(count).map_err(|_| Refusal::OutOfRange)?;
+    repeat(m, sequence, Some(Context { count, mark }))
+}
+
 pub fn reset_mode(m: &mut Scanner) -> Result<(), Refusal>
     ensures { (scanner_of m.new, said_of result) ≡ call graph_kind (scanner_of m.old) Reset }
 {
     live::reset_mode(&m.machine.map.tables, &mut m.machine.live)
 }
 
-// The three that only look.
+// The four that only look.
 pub fn mode(m: &Scanner) -> u16
     ensures { result ≡ mode_call graph_kind (scanner_of m.now) }
 {
@@ -122,4 +123,13 @@ pub fn free_nodes(m: &Scanner) -> u16
     ensures { HintFits (scanner_of m.now).bindings result }
 {
     m.machine.map.graph.free_nodes()
+}
+
+// The map file of the machine: its tables and the binding calls that it kept. Accepted, the bytes stand in front of the output
+// and the rest of it stays; refused, all of it is zeros.
+pub fn write(m: &Scanner, output: &mut [u8]) -> Result<usize, Refusal>
+    ensures few { IfOk result (λ n. n ≤ min (length output.old) 812655) }
+    ensures sent { (length_code result, output.new) ≡ write_call graph_kind (scanner_of m.now) output.old }
+{
+    map::write_map(&m.kept, m.machine.map.kept, &m.machine.map.tables, output)
 }

@@ -1,10 +1,11 @@
--- Pop and repeat on a machine, against `call`.
+-- The first word of the queue is popped, and the others move up by one. A repeat is refused past the last sequence and where the
+-- queue has no room, and else its pairs go before those of the queue.
 use Prim.Native.Nat.{ℕ, ◌+◌, ◌-◌, ◌≤◌, ◌<◌, min}
 use mathlib.Core.Path.{◌≡◌, refl, sym, ap, ◌∙◌}
 use mathlib.Core.Option.{Option}
 use mathlib.Core.List.{List, [], ◌∷◌, ◌++◌, map}
 use native.Mathlib.Omega.{arith}
-use lib.ListN.{length, take, drop, set, get_or, length-take, length-drop}
+use lib.ListN.{length, take, drop, set, get_or, length-take}
 use Rattle.std.proofs.lemmas.List.{take_min, drop-take}
 use borrow.Author.Tests.{lt-ltb, le-ltb, le-leb, lt-leb}
 use Rattle.rules.specs.Values.{Context, Pair}

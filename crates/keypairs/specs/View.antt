@@ -1,6 +1,6 @@
 -- What the words of pairs and sequences and the declared types mean, in the values of the rules. Every word decodes to something.
 use Rattle.std.specs.Prelude
-use Rattle.std.specs.Prelude.{Some, None, Ok, Err, ℕ, ◌/◌, ◌%◌, true, List, [], ◌∷◌, ◌++◌, map, eqb, ltb, length, take, if◌then◌else◌}
+use Rattle.std.specs.Prelude.{Some, None, ℕ, ◌/◌, ◌%◌, true, List, [], ◌∷◌, ◌++◌, map, eqb, ltb, length, take, get_or, set, if◌then◌else◌}
 use Rattle.std.proofs.Math.Option
 use Rattle.std.proofs.Math.Option.{Option, none, some}
 use Rattle.rules.specs.Basics.{Result, accept, ◌>>=◌, unless}
@@ -9,8 +9,6 @@ use Rattle.rules.specs.Tables as t
 use Rattle.rules.specs.KeyLoop as key
 use Rattle.rules.specs.Calls as c
 use Rattle.rules.specs.Graph as g
-use Rattle.keyvalues.specs.declared.refusal.Refusal.{Refusal}
-use Rattle.keyvalues.specs.View.{number_of}
 use Rattle.keypairs.specs.declared.context.Context.{Context}
 use Rattle.keypairs.specs.declared.pair.Pair.{Pair}
 use Rattle.keypairs.specs.declared.tracker.Status.{Status}
@@ -63,6 +61,10 @@ trackers_of ss = map tracker_by ss
 abbrev pub fetched_by : Option v.Context → key.Tracker → key.Tracker × ℕ
 fetched_by o t = (key.fetch o t, length t.pairs)
 
+-- the sequences after fetching that of a number, and how many pairs it has; where no sequence has the number, none
+abbrev pub fetched_at : ℕ → Option v.Context → List key.Tracker → List key.Tracker × ℕ
+fetched_at q o ts = (set ts q (key.fetch o (get_or ts q key.no_tracker)), length (get_or ts q key.no_tracker).pairs)
+
 -- ---- the live state, over tables
 
 abbrev pub shared_of : t.Tables → Live → key.Shared
@@ -85,16 +87,11 @@ machine_by gr ks t l = record { bindings = gr; kept = ks; state = live_of t l }
 
 -- ---- answers
 
--- what a call answers that is accepted or refused
-abbrev pub said_of : Prelude.Result (Unit {0}) Refusal → c.Answer
-said_of (Ok _) = c.Accepted
-said_of (Err r) = c.Refused (number_of r)
-
 abbrev pub pop_of : Prelude.Option Pair → c.Answer
 pop_of (Some p) = c.Popped (pair_by p)
 pop_of None = c.Nothing
 
--- a key joins the trail: 7 a key is to join a trail of 64
+-- a key joins the trail: 7 where 64 keys are on it already
 abbrev pub joined : ℕ → key.State ℕ → Result (key.State ℕ)
 joined k m =
     unless (ltb (length m.shared.trail) 64) 7

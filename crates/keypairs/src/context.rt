@@ -5,6 +5,7 @@ ghost use Rattle.keyvalues.specs.View.{event_of};
 ghost use Rattle.keypairs.specs.View.{context_of, chosen_of};
 
 use keyvalues::event::EdgeEvent;
+use std::mem;
 
 #[repr(C)]
 #[derive(Clone, Copy, Debug, PartialEq, Eq, Default)]
@@ -36,12 +37,9 @@ impl Context {
         match event {
             EdgeEvent::Class(0) if 48 <= key && key <= 57 => Context {
                 count: counted(self.count, key),
-                mark: self.mark,
+                ..self
             },
-            EdgeEvent::Any => Context {
-                count: self.count,
-                mark: key,
-            },
+            EdgeEvent::Any => Context { mark: key, ..self },
             _ => self,
         }
     }
@@ -52,9 +50,7 @@ impl Context {
         ensures taken { context_of result ≡ (v.take (context_of self.old)).0 }
         ensures left { context_of self.new ≡ (v.take (context_of self.old)).1 }
     {
-        let taken = *self;
-        *self = Context { count: 0, mark: 0 };
-        taken
+        mem::take(self)
     }
 
     // Each field of `over` that is not 0, and else the old one.

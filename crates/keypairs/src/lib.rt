@@ -1,9 +1,9 @@
-// What a machine keeps: contexts and pairs, the sequences that remember pairs, the queue of waiting pairs; and entering a mode
-// with what it gives. A function that has the name of a definition of crates/rules/specs is proved equal to it, by the views of
-// specs/View.antt; what the others do is said in the same terms.
+// What a machine keeps beside its map: the entered mode and the place, the context, the queue of waiting pairs, the sequences
+// that remember pairs, and the trail; and what changes it: pushing, popping and repeating pairs, entering a mode, steps and keys
+// with no binding. Each is proved equal to the rules' definition of it, by the views of specs/View.antt.
 //
-// What a machine keeps is lent to the functions below and changed in place. Of a key graph its parts are read and nothing is
-// added, so the crate stands on those alone.
+// It is lent to the functions below and changed in place; a context, a pair and a sequence also go by value. Of a key graph
+// nodes are read and nothing is added, so the crate stands on its parts alone.
 #![tactic(auto)]
 
 pub mod context;

@@ -1,20 +1,23 @@
 // The live state of a machine: the queue of waiting pairs, the remembered sequences, the trail, and what is small. It is lent and
 // changed in place.
-ghost use Rattle.std.specs.Prelude.{◌≡◌, List, ◌++◌, ◌+◌, ◌≤◌, length, map, take};
+ghost use Rattle.std.specs.Prelude.{◌≡◌, List, [], ◌++◌, ◌+◌, ◌≤◌, length, map, take};
+ghost use Rattle.std.proofs.Math.Option.{some};
 ghost use Rattle.rules.specs.Tables.{Tables};
 ghost use Rattle.rules.specs.KeyLoop as key;
+ghost use Rattle.rules.specs.KeyLoop.{at, run_hook};
 ghost use Rattle.rules.specs.Values.{Binding};
 ghost use Rattle.rules.specs.Graph.{Graph};
 ghost use Rattle.rules.specs.Calls.{graph_kind, fresh, call, mode_call, Pop, Repeats};
-ghost use Rattle.keyvalues.specs.View.{told, maybe_of};
+ghost use Rattle.keyvalues.specs.View.{told, event_of, maybe_of, said_of};
 ghost use Rattle.keytables.specs.View.{tables_of};
-ghost use Rattle.keypairs.specs.View.{context_of, pair_by, trackers_of, broke, over_of, live_of, shared_of, machine_by, joined, said_of, pop_of};
+ghost use Rattle.keypairs.specs.View.{context_of, pair_by, trackers_of, broke, over_of, fetched_at, live_of, shared_of, machine_by, joined, pop_of};
 
 use crate::context::Context;
 use crate::pair::Pair;
 use crate::rule;
 use crate::state::State;
 use crate::tracker::SequenceTracker;
+use keyvalues::event::EdgeEvent;
 use keyvalues::list;
 use keyvalues::refusal::Refusal;
 use keyvalues::tables::TableWords;
@@ -43,6 +46,7 @@ fn put_before(queue: &mut [u64; Pair::QUEUE as usize], waiting: usize, words: &[
 
 impl Live {
     // Mode 0, no pair, no trail.
+    #[tactic(auto, unfolding(rules::specs::Calls::fresh, rules::specs::KeyLoop::fresh_shared, rules::specs::Calls::graph_navigator, rules::specs::Values::no_context, rules::specs::KeyLoop::no_tracker))]
     pub fn fresh() -> Live
         ensures { (t : Tables) → live_of t result ≡ (fresh graph_kind t).state }
     {
@@ -50,7 +54,7 @@ impl Live {
             queue: [0; Pair::QUEUE as usize],
             sequences: [SequenceTracker::fresh(); SequenceTracker::SEQUENCES as usize],
             trail: [0; State::TRAIL as usize],
-            state: State::fresh(),
+            state: State::default(),
         }
     }
 
@@ -64,22 +68,35 @@ impl Live {
         }
     }
 
+    // The place is this node.
+    pub fn come_to(&mut self, place: u16)
+        ensures { (t : Tables) → live_of t self.new ≡ key.at place (shared_of t self.old) }
+    {
+        self.state.place = place;
+    }
+
+    // The event hook, after a key went by the event.
+    #[tactic(auto, unfolding(rules::specs::KeyLoop::run_hook))]
+    pub fn hook(&mut self, event: EdgeEvent, key: u16)
+        ensures { (t : Tables) → live_of t self.new ≡ at self.old.state.place (run_hook (some (event_of event)) key (shared_of t self.old)) }
+    {
+        self.state.context = self.state.context.event(event, key);
+    }
+
     // A pair goes to the sequences by the rules of the mode, and then behind the queue.
+    #[tactic(auto, unfolding(rules::specs::KeyLoop::push))]
     fn push(&mut self, tables: &TableWords, pair: Pair) -> Result<(), Refusal>
         ensures { told (λ _. shared_of (tables_of tables.now) self.new) result ≡ key.push (pair_by pair) (shared_of (tables_of tables.now) self.old) }
     {
         let w = pair.pack();
         rule::apply_rules(tables, &mut self.sequences, self.state.mode, w)?;
-        match list::append(&mut self.queue, self.state.queued, w) {
-            Some(queued) => {
-                self.state.queued = queued;
-                Ok(())
-            }
-            None => Err(Refusal::QueueFull),
-        }
+        let queued = list::append(&mut self.queue, self.state.queued, w);
+        self.state.queued = queued.ok_or(Refusal::QueueFull)?;
+        Ok(())
     }
 
     // A pair for each of the actions, all with one context.
+    #[tactic(auto, using(crate::proofs::Pushes::actions_more, crate::proofs::Pushes::actions_refused, crate::proofs::Pushes::actions_none))]
     pub(crate) fn push_all(
         &mut self,
         tables: &TableWords,
@@ -99,6 +116,7 @@ impl Live {
     }
 
     // Every sequence is broken.
+    #[tactic(auto, using(crate::proofs::Lists::changed_all))]
     pub fn break_all(&mut self)
         ensures rest { self.new ≡ record self.old { sequences = self.new.sequences } }
         ensures broken { trackers_of self.new.sequences ≡ map broke (trackers_of self.old.sequences) }
@@ -113,6 +131,13 @@ impl Live {
         ensures { result.now ≡ take self.now.state.queued self.now.queue }
     {
         list::front(&self.queue, self.state.queued)
+    }
+
+    // No pair waits any longer.
+    pub fn clear_queue(&mut self)
+        ensures { (t : Tables) → live_of t self.new ≡ key.at self.old.state.place (key.with_queue [] (shared_of t self.old)) }
+    {
+        self.state.queued = 0;
     }
 
     // The keys on the trail.
@@ -133,16 +158,13 @@ impl Live {
     pub fn join_trail(&mut self, key: u16) -> Result<(), Refusal>
         ensures { (t : Tables) → told (λ _. live_of t self.new) result ≡ joined key (live_of t self.old) }
     {
-        match list::append(&mut self.trail, self.state.trailed, key) {
-            Some(trailed) => {
-                self.state.trailed = trailed;
-                Ok(())
-            }
-            None => Err(Refusal::TrailFull),
-        }
+        let trailed = list::append(&mut self.trail, self.state.trailed, key);
+        self.state.trailed = trailed.ok_or(Refusal::TrailFull)?;
+        Ok(())
     }
 
     // The first waiting pair, if there is one.
+    #[tactic(auto, using(crate::proofs::Calls::pop_none))]
     pub fn pop(&mut self) -> Option<Pair>
         ensures { (gr : Graph) (ks : List Binding) (t : Tables) → (machine_by gr ks t self.new, pop_of result) ≡ call graph_kind (machine_by gr ks t self.old) Pop }
     {
@@ -157,7 +179,20 @@ impl Live {
         Some(first)
     }
 
+    // The sequence of the number is fetched. A number that no sequence has changes nothing, and the answer is 0.
+    #[tactic(auto, using(crate::proofs::Sequences::fetched_out))]
+    pub fn fetch(&mut self, sequence: u16, over: Option<Context>) -> u16
+        ensures rest { self.new ≡ record self.old { sequences = self.new.sequences } }
+        ensures fetched { (trackers_of self.new.sequences, result) ≡ fetched_at sequence (over_of over) (trackers_of self.old.sequences) }
+    {
+        if SequenceTracker::SEQUENCES <= sequence {
+            return 0;
+        }
+        self.sequences[sequence as usize].fetch_in_place(over)
+    }
+
     // The remembered pairs of the sequence, overridden and stored again, go before the queue. Refused, nothing is changed.
+    #[tactic(auto, using(crate::proofs::Calls::repeat_none))]
     pub fn repeat(&mut self, sequence: u16, over: Option<Context>) -> Result<(), Refusal>
         ensures { (gr : Graph) (ks : List Binding) (t : Tables) → (machine_by gr ks t self.new, said_of result) ≡ call graph_kind (machine_by gr ks t self.old) (Repeats sequence (over_of over)) }
     {
@@ -169,9 +204,8 @@ impl Live {
         if self.queue.len() < count + waiting {
             return Err(Refusal::QueueFull);
         }
-        let tracker = &mut self.sequences[sequence as usize];
-        tracker.fetch_in_place(over);
-        let fetched = *tracker;
+        self.fetch(sequence, over);
+        let fetched = self.sequences[sequence as usize];
         put_before(&mut self.queue, waiting, fetched.words());
         self.state.queued = (count + waiting) as u16;
         Ok(())

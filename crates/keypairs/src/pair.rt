@@ -1,5 +1,5 @@
 // A pair: an action with the context that it carries. Waiting and remembered pairs are kept as a word each.
-ghost use Rattle.std.specs.Prelude.{◌≡◌};
+ghost use Rattle.std.specs.Prelude.{◌≡◌, ◌+◌, ◌*◌, ◌<◌};
 ghost use Rattle.rules.specs.Values as v;
 ghost use Rattle.rules.specs.KeyLoop.{override};
 ghost use Rattle.keypairs.specs.View.{pair_by, pair_of, over_of};
@@ -13,24 +13,30 @@ pub struct Pair {
     pub context: Context,
 }
 
-impl Pair {
-    // So many pairs wait at most.
-    pub const QUEUE: u16 = 256;
+impl Default for Pair {
+    ghost is_default = { λ p. pair_by p ≡ v.default_pair };
 
-    // The default pair: action 0 with nothing gathered.
+    // Action 0 with nothing gathered.
     #[tactic(auto, unfolding(rules::specs::Values::default_pair))]
-    pub fn default() -> Pair
+    fn default() -> Pair
         ensures { pair_by result ≡ v.default_pair }
     {
         Pair {
             action: 0,
-            context: Context { count: 0, mark: 0 },
+            context: Context::default(),
         }
     }
+}
 
-    #[tactic(auto, using(crate::proofs::Sequences::packed))]
-    pub(crate) fn pack(self) -> u64
-        ensures { pair_of result ≡ pair_by self }
+impl Pair {
+    // So many pairs wait at most.
+    pub const QUEUE: u16 = 256;
+
+    // The word of a pair: action, count and mark, lowest first.
+    #[tactic(auto, unfolding(crate::specs::View::pair_of))]
+    pub fn pack(self) -> u64
+        ensures means { pair_of result ≡ pair_by self }
+        ensures number { (result ≡ self.action + 65536 * self.context.count + 4294967296 * self.context.mark) × (result < 281474976710656) }
     {
         let x = self.context;
         (self.action as u64) + (x.count as u64) * 65536 + (x.mark as u64) * 4294967296

@@ -5,28 +5,30 @@ ghost use Rattle.keyvalues.specs.View.{told};
 ghost use Rattle.keytables.specs.View.{rule_of, tables_of};
 ghost use Rattle.keypairs.specs.View.{pair_of, trackers_of};
 
+use crate::pair::Pair;
 use crate::tracker::{SequenceTracker, Status};
 use keytables::rule::Rule;
-use keyvalues::number;
 use keyvalues::refusal::Refusal;
-use keyvalues::tables::TableWords;
+use keyvalues::tables::{RuleWord, TableWords};
 
+#[tactic(auto, unfolding(rules::specs::KeyLoop::apply_rule))]
 fn apply_rule(
-    word: u64,
+    word: RuleWord,
     sequences: &mut [SequenceTracker; SequenceTracker::SEQUENCES as usize],
     mode: u16,
     w: u64,
 ) -> Result<(), Refusal>
     ensures { told (λ _. trackers_of sequences.new) result ≡ apply_rule mode (pair_of w) (rule_of word) (trackers_of sequences.old) }
 {
-    let rule = Rule::unpack(word);
-    if rule.matches(mode, number::low(w)) {
-        return sequences[rule.sequence as usize].track(Status::of(rule.status), w);
+    let rule = Rule::from(word);
+    if rule.matches(mode, Pair::unpack(w).action) {
+        return sequences[rule.sequence as usize].track(Status::from(rule.status), w);
     }
     Ok(())
 }
 
 // All that match, in order, up to the first refusal.
+#[tactic(auto, using(crate::proofs::Pushes::rules_more, crate::proofs::Pushes::rules_refused, crate::proofs::Pushes::rules_none))]
 pub(crate) fn apply_rules(
     tables: &TableWords,
     sequences: &mut [SequenceTracker; SequenceTracker::SEQUENCES as usize],

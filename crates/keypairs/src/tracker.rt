@@ -1,10 +1,10 @@
 // A remembered sequence: a head, which is twice the number of its pairs and one more if it is broken, and then the pairs. The
 // machine keeps eight of them. Every number is some head, so that every value of the words is some sequence.
-ghost use Rattle.std.specs.Prelude.{◌≡◌, ◌≤◌, ◌<◌, length, map, slice_set};
+ghost use Rattle.std.specs.Prelude.{◌≡◌, ◌≤◌, ◌<◌, ◌∷◌, [], ◌++◌, length, map};
 ghost use Rattle.rules.specs.Tables as t;
 ghost use Rattle.rules.specs.KeyLoop as key;
-ghost use Rattle.keyvalues.specs.View.{told, settled};
-ghost use Rattle.keypairs.specs.View.{pair_of, pair_by, tracker_by, status_by, broke, over_of, fetched_by, said_of};
+ghost use Rattle.keyvalues.specs.View.{told, said_of, settled};
+ghost use Rattle.keypairs.specs.View.{pair_of, pairs_of, pair_by, tracker_by, status_by, broke, over_of, fetched_by};
 
 use crate::context::Context;
 use crate::pair::Pair;
@@ -20,10 +20,10 @@ pub enum Status {
     Track,
 }
 
-impl Status {
+impl From<u16> for Status {
     // The status of a number; every number from 4 on is Track.
     #[tactic(auto, unfolding(rules::specs::Tables::status_of))]
-    pub fn of(n: u16) -> Status
+    fn from(n: u16) -> Status
         ensures { status_by result ≡ t.status_of n }
     {
         match n {
@@ -49,9 +49,6 @@ impl SequenceTracker {
 
     pub const PAIRS: u16 = 64;
 
-    // The head of a sequence that is full and not broken.
-    const FULL: u64 = 2 * SequenceTracker::PAIRS as u64;
-
     #[tactic(auto, unfolding(rules::specs::KeyLoop::no_tracker, crate::specs::View::tracker_by))]
     pub fn fresh() -> SequenceTracker
         ensures { tracker_by result ≡ key.no_tracker }
@@ -63,7 +60,8 @@ impl SequenceTracker {
     }
 
     // How many pairs there are: all, where the head counts more.
-    pub fn count(&self) -> u16
+    #[tactic(auto, using(crate::proofs::Sequences::length_pairs), unfolding(crate::specs::View::tracker_by))]
+    pub(crate) fn count(&self) -> u16
         ensures value { result ≡ length (tracker_by self.now).pairs }
         ensures few { result ≤ 64 }
     {
@@ -71,61 +69,66 @@ impl SequenceTracker {
     }
 
     // The words of the pairs.
-    pub fn words(&self) -> &[u64]
+    #[tactic(auto, using(crate::proofs::Sequences::front_words), unfolding(crate::specs::View::tracker_by))]
+    pub(crate) fn words(&self) -> &[u64]
         ensures { map pair_of result.now ≡ (tracker_by self.now).pairs }
     {
         &self.pairs[..self.count() as usize]
     }
 
-    // The pair's word behind n others, and the head that counts it.
-    fn put(&mut self, n: usize, w: u64, head: u64)
+    // The pair of the word behind the first n others, with which they are all.
+    #[tactic(auto, using(crate::proofs::Sequences::put_is))]
+    fn put(&mut self, n: usize, w: u64, broken: bool)
         requires { n < 64 }
-        ensures { self.new ≡ record { head = head; pairs = slice_set self.old.pairs n w } }
+        ensures { tracker_by self.new ≡ key.tracker (pairs_of n self.old.pairs ++ (pair_of w ∷ [])) broken }
     {
         self.pairs[n] = w;
-        self.head = head;
+        self.head = 2 * (n as u64 + 1) + u64::from(broken);
     }
 
     // The sequence is broken: the next Track starts anew.
-    pub fn break_off(&mut self)
+    #[tactic(auto, using(crate::proofs::Sequences::broken_is))]
+    pub(crate) fn break_off(&mut self)
         ensures { tracker_by self.new ≡ broke (tracker_by self.old) }
     {
         self.head = self.head / 2 * 2 + 1;
     }
 
     // A Track: anew if the sequence is broken, and else behind its pairs.
-    #[tactic(auto, unfolding(rules::specs::KeyLoop::track))]
+    #[tactic(auto, using(crate::proofs::Sequences::front_words), unfolding(rules::specs::KeyLoop::track, crate::specs::View::tracker_by))]
     fn track_on(&mut self, w: u64) -> Result<(), Refusal>
         ensures { told (λ _. tracker_by self.new) result ≡ key.track t.Track (pair_of w) (tracker_by self.old) }
     {
         if self.head % 2 == 1 {
-            self.put(0, w, 2);
+            self.put(0, w, false);
             return Ok(());
         }
-        if SequenceTracker::FULL <= self.head {
+        let count = self.count();
+        if SequenceTracker::PAIRS <= count {
             return Err(Refusal::SequenceFull);
         }
-        self.put((self.head / 2) as usize, w, self.head + 2);
+        self.put(count as usize, w, false);
         Ok(())
     }
 
     // What a rule of the status does with the pair.
     #[tactic(auto, unfolding(rules::specs::KeyLoop::track))]
-    pub fn track(&mut self, status: Status, w: u64) -> Result<(), Refusal>
+    pub(crate) fn track(&mut self, status: Status, w: u64) -> Result<(), Refusal>
         ensures { told (λ _. tracker_by self.new) result ≡ key.track (status_by status) (pair_of w) (tracker_by self.old) }
     {
         match status {
-            Status::Atom => self.put(0, w, 3),
+            Status::Atom => self.put(0, w, true),
             Status::Break => self.break_off(),
             Status::Ignore => {}
-            Status::Restart => self.put(0, w, 2),
+            Status::Restart => self.put(0, w, false),
             Status::Track => return self.track_on(w),
         }
         Ok(())
     }
 
     // Each pair is overridden and stored again. The answer is their number.
-    pub fn fetch_in_place(&mut self, over: Option<Context>) -> u16
+    #[tactic(auto, using(crate::proofs::Lists::changed_on, crate::proofs::Lists::changed_all), unfolding(rules::specs::KeyLoop::fetch, crate::specs::View::tracker_by))]
+    pub(crate) fn fetch_in_place(&mut self, over: Option<Context>) -> u16
         ensures { (tracker_by self.new, result) ≡ fetched_by (over_of over) (tracker_by self.old) }
     {
         let count = self.count();
@@ -136,6 +139,7 @@ impl SequenceTracker {
     }
 
     // By value. Refused, the tracker is the one before.
+    #[tactic(auto, unfolding(keyvalues::specs::View::settled))]
     pub fn push(self, status: Status, pair: Pair) -> (SequenceTracker, Result<(), Refusal>)
         ensures { (tracker_by result.0, said_of result.1) ≡ settled (tracker_by self) (key.track (status_by status) (pair_by pair) (tracker_by self)) }
     {
@@ -146,11 +150,10 @@ impl SequenceTracker {
         }
     }
 
-    pub fn fetch(self, over: Option<Context>) -> (SequenceTracker, u16)
+    pub fn fetch(mut self, over: Option<Context>) -> (SequenceTracker, u16)
         ensures { (tracker_by result.0, result.1) ≡ fetched_by (over_of over) (tracker_by self) }
     {
-        let mut next = self;
-        let count = next.fetch_in_place(over);
-        (next, count)
+        let count = self.fetch_in_place(over);
+        (self, count)
     }
 }

@@ -1,47 +1,42 @@
--- Searches in words and among nodes, and what they say of edges and of find.
+-- A search by blocks ends where the first word that passes is, since no word of a block that is passed has the key. Words with one key
+-- are edges of one start and event, so the rules' first edge stands at that place, and a word that goes in there is the rules' edge put.
+-- Following takes the first event that has an edge, and a node is what its words stand for.
 use Rattle.std.specs.Prelude
 use Rattle.std.specs.Prelude.{if◌then◌else◌, cond, Some, None}
-use Rattle.std.specs.Option.{unwrap_or}
+use Rattle.std.specs.Option.{unwrap_or, MatchOption, IsSomeAnd}
 use Rattle.std.specs.Simd.{first_chunks}
-use Rattle.std.specs.List.{position_or_len, position_from, list_any}
-use Rattle.std.proofs.lemmas.List.{get_or-map}
+use Rattle.std.specs.List.{position, position_or_len, position_from, list_any}
 use Rattle.std.proofs.lemmas.List.Recursion.{is_position_or_len}
+use Rattle.std.proofs.lemmas.List.Folds.{list_any_more}
+use Rattle.std.proofs.lemmas.List.Sums.{prefix_len-le-length, passes_at_first}
 use Rattle.std.proofs.lemmas.Iterator.Adapters.{position_from-zero}
-use Prim.Native.Nat.{ℕ, zero, suc, ◌+◌, ◌-◌, ◌*◌, ◌%◌, ◌<◌, ◌≤◌, zero-le}
-use mathlib.Core.Path.{◌≡◌, refl, sym, ap, ◌∙◌}
-use mathlib.Core.Bool.{Bool, true, false, ◌||◌}
+use Prim.Native.Nat.{ℕ, zero, suc, ◌+◌, ◌-◌, ◌*◌, ◌<◌, ◌≤◌}
+use mathlib.Core.Path.{◌≡◌, refl, sym, ap, subst, ◌∙◌}
+use mathlib.Core.Bool.{Bool, true, false, not, ◌||◌}
 use mathlib.Core.List.{List, [], ◌∷◌, ◌++◌, map, map-append}
 use mathlib.Core.Option.{Option, none, some}
 use native.Mathlib.Omega.{arith}
 use native.Mathlib.Numerals.{add-one}
-use lib.Dec.{ltb}
-use lib.ListN.{length, take, drop, length-drop, set, get_or, length-map, get_or-eq_default}
+use lib.Dec.{ltb, eqb}
+use lib.ListN.{length, take, drop, drop_of_length-le, length-drop, set, get_or, length-map}
+use Rattle.keyvalues.specs.declared.class.ClassWord.{ClassWord}
 use Rattle.keyvalues.specs.declared.node.NodeWords.{NodeWords}
-use lib.Seq.{take_all}
-use borrow.Author.Tests.{lt-ltb, le-ltb, ltb-false}
-use Rattle.rules.specs.Basics.{accept, refuse, some_of}
+use lib.Seq.{drop-cons, take_all}
+use borrow.Author.Tests.{lt-ltb, le-ltb, ltb-true, ltb-false}
+use Rattle.rules.specs.Basics.{accept, refuse, some_of, unless}
+use Rattle.rules.proofs.Tests.{by_cases}
 use Rattle.rules.specs.Values.{Event, Class, Fallthrough}
-use Rattle.rules.specs.Tables.{ClassEntry, memberships, holds_key}
-use Rattle.rules.specs.Graph.{is_edge, Edge, end_in, replace_in, put_edge, add_edge, get_edge, Node, no_node, follow_first, or_else_by, lastly, class_events, Successor, FallsTo, NoSuccessor}
+use Rattle.rules.specs.Tables.{memberships, holds_key}
+use Rattle.rules.specs.Graph.{is_edge, Edge, end_in, replace_in, put_edge, add_edge, get_edge, Node, no_node, follow_first, or_else_by, lastly, class_events, Follow, Successor, FallsTo, NoSuccessor}
 use Rattle.rules.specs.Calls.{first_node}
-use Rattle.keyvalues.specs.View.{maybe_of, event_at, class_at, graph_by, node_in}
-use Rattle.keyparts.specs.View.{edge_of, key_is, first_place, follow_members}
+use Rattle.keyvalues.specs.View.{maybe_of, event_at, event_code, class_at, graph_by, node_in, node_at, action_at}
+use Rattle.keyparts.specs.declared.edge.EdgeWord.{EdgeWord}
+use Rattle.keyparts.specs.View.{key_in, no_edge, edge_of, key_is, first_place, word_put, end_of, edge_words, graph_of, empty_words, follow_members}
+use Rattle.keyparts.specs.declared.graph.Graph.{Graph}
+use Rattle.keyvalues.proofs.Words.{code_event}
 use Rattle.keyparts.proofs.Edges.{edge_key, edge_word}
 
-pub first_most : {A : Type 0} (p : A → Bool) (xs : List A) → first_place p xs ≤ length xs
-unfolding first_place
-first_most p [] = zero-le
-first_most p (x ∷ xs) = pick (p x) (first_most p xs)
-  where
-    pick : (b : Bool) → first_place p xs ≤ length xs → (if b then 0 else suc (first_place p xs)) ≤ suc (length xs)
-    pick true h = zero-le
-    pick false h = omega arith
-
 -- ---- what std's searches say
-
--- the answer of `position`
-abbrev pub place_told : {A : Type 0} → (A → Bool) → List A → Prelude.Option ℕ
-place_told p xs = cond (ltb (position_or_len p xs) (length xs)) (Some (position_or_len p xs)) None
 
 pub first_is : {A : Type 0} (p : A → Bool) (xs : List A) → first_place p xs ≡ position_or_len p xs
 unfolding first_place
@@ -51,7 +46,10 @@ first_is p xs = is_position_or_len (first_place p) p refl (λ y ys. go (p y) (fi
     go true n = refl
     go false n = omega arith
 
-pub place_or : {A : Type 0} (p : A → Bool) (xs : List A) → unwrap_or (place_told p xs) (length xs) ≡ first_place p xs
+pub first_most : {A : Type 0} (p : A → Bool) (xs : List A) → first_place p xs ≤ length xs
+first_most p xs = rw (first_is p xs) (prefix_len-le-length (λ x. not (p x)) xs)
+
+pub place_or : {A : Type 0} (p : A → Bool) (xs : List A) → unwrap_or (position p xs) (length xs) ≡ first_place p xs
 place_or p xs = go (ltb (position_or_len p xs) (length xs)) refl ∙ sym (first_is p xs)
   where
     go : (b : Bool) → ltb (position_or_len p xs) (length xs) ≡ b → unwrap_or (cond b (Some (position_or_len p xs)) None) (length xs) ≡ position_or_len p xs
@@ -68,6 +66,15 @@ first_from p (suc n) (x ∷ xs) h = go (p x) (first_from p n xs) h
     go : (b : Bool) → (n ≤ first_place p xs → n + first_place p (drop n xs) ≡ first_place p xs) → suc n ≤ (if b then 0 else suc (first_place p xs)) → suc n + first_place p (drop n xs) ≡ (if b then 0 else suc (first_place p xs))
     go true ih h = absurd (omega arith)
     go false ih h = let e = ih (omega arith) in omega arith
+
+-- whether one of the words has the key, by those before place i
+module _ (key : ℕ) (ws : List EdgeWord) (i : ℕ) (met : Bool) (h : met ≡ list_any (key_is key) (take i ws)) where
+  pub any_more : i < length ws → (met || eqb (key_in (get_or ws i no_edge)) key) ≡ list_any (key_is key) (take (i + 1) ws)
+  unfolding key_is
+  any_more l = ap (λ (b : Bool). b || eqb (key_in (get_or ws i no_edge)) key) h ∙ sym (list_any_more (key_is key) ws i no_edge l)
+
+  pub any_all : length ws ≤ i → met ≡ list_any (key_is key) ws
+  any_all l = rw (take_all i ws l) at h
 
 -- where none of the first k passes, the first that does stands behind them
 first_behind : {A : Type 0} (p : A → Bool) (k : ℕ) (xs : List A) → k ≤ length xs → list_any p (take k xs) ≡ false → k + first_place p (drop k xs) ≤ first_place p xs
@@ -116,7 +123,7 @@ module _ {A : Type 0} (f : A → Node) (p : Node → Bool) where
       go true h = refl
       go false h = h
 
-  pub node_told : (xs : List A) → maybe_of (place_told (λ x. p (f x)) xs) ≡ first_node p 0 (map f xs)
+  pub node_told : (xs : List A) → maybe_of (position (λ x. p (f x)) xs) ≡ first_node p 0 (map f xs)
   node_told xs = ap maybe_of (position_from-zero (λ x. p (f x)) xs) ∙ from_place 0 xs
 
 pub any_told : {A B : Type 0} (f : A → B) (p : B → Bool) (xs : List A) → list_any (λ x. p (f x)) xs ≡ some_of p (map f xs)
@@ -124,30 +131,43 @@ unfolding some_of
 any_told f p [] = refl
 any_told f p (x ∷ xs) = ap (λ (b : Bool). p (f x) || b) (any_told f p xs)
 
+-- ---- where an edge's word goes
+module _ (ws : List EdgeWord) (w : EdgeWord) where
+  pub word_over : first_place (key_is (key_in w)) ws < length ws → set ws (first_place (key_is (key_in w)) ws) w ≡ word_put ws w
+  unfolding word_put
+  word_over h = rw (lt-ltb (first_place (key_is (key_in w)) ws) (length ws) h)
+
+  pub word_behind : length ws ≤ first_place (key_is (key_in w)) ws → length ws < 2048 → ws ++ (w ∷ []) ≡ word_put ws w
+  unfolding word_put
+  word_behind h r = rw (le-ltb (first_place (key_is (key_in w)) ws) (length ws) h, lt-ltb (length ws) 2048 r)
+
+  pub word_nowhere : length ws ≤ first_place (key_is (key_in w)) ws → 2048 ≤ length ws → ws ≡ word_put ws w
+  unfolding word_put
+  word_nowhere h r = rw (le-ltb (first_place (key_is (key_in w)) ws) (length ws) h, le-ltb (length ws) 2048 r)
+
+-- what a map gives that changes no number
+pub same_number : {P : ℕ → ℕ → Type 0} (m n : Prelude.Option ℕ) → ((x r : ℕ) → P x r → r ≡ x) → MatchOption m (n ≡ None) (λ x. IsSomeAnd n (P x)) → maybe_of n ≡ maybe_of m
+same_number None n same h = ap maybe_of h
+same_number (Some x) None same h = absurd h
+same_number (Some x) (Some y) same h = ap some (same x y h)
+
 pub first_has : {A : Type 0} (p : A → Bool) (d : A) (xs : List A) → first_place p xs < length xs → p (get_or xs (first_place p xs) d) ≡ true
-unfolding first_place
-first_has p d [] h = absurd (omega arith)
-first_has p d (x ∷ xs) h = go (p x) refl (first_has p d xs) h
-  where
-    go : (b : Bool) → p x ≡ b → (first_place p xs < length xs → p (get_or xs (first_place p xs) d) ≡ true) → (if b then 0 else suc (first_place p xs)) < suc (length xs)
-        → p (get_or (x ∷ xs) (if b then 0 else suc (first_place p xs)) d) ≡ true
-    go true e ih h = e
-    go false e ih h = ih (omega arith)
+first_has p d xs h = rw (first_is p xs) (passes_at_first p xs d (rw (first_is p xs) at h))
 
 -- ---- what the search's answer says of the edges
-module _ (n : ℕ) (ev : Event) (p : ℕ → Bool) (same : (w : ℕ) → is_edge n ev (edge_of w) ≡ p w) where
-  pub end_found : (xs : List ℕ) → first_place p xs < length xs → end_in (map edge_of xs) n ev ≡ some (edge_of (get_or xs (first_place p xs) 0)).to
+module _ (n : ℕ) (ev : Event) (p : EdgeWord → Bool) (same : (w : EdgeWord) → is_edge n ev (edge_of w) ≡ p w) where
+  pub end_found : (xs : List EdgeWord) → first_place p xs < length xs → end_in (map edge_of xs) n ev ≡ some (edge_of (get_or xs (first_place p xs) no_edge)).to
   unfolding first_place end_in
   end_found [] h = absurd (omega arith)
   end_found (x ∷ xs) h = rw (same x) (go (p x) (end_found xs) h)
     where
-      go : (b : Bool) → (first_place p xs < length xs → end_in (map edge_of xs) n ev ≡ some (edge_of (get_or xs (first_place p xs) 0)).to)
+      go : (b : Bool) → (first_place p xs < length xs → end_in (map edge_of xs) n ev ≡ some (edge_of (get_or xs (first_place p xs) no_edge)).to)
           → (if b then 0 else suc (first_place p xs)) < suc (length xs)
-          → (if b then some (edge_of x).to else end_in (map edge_of xs) n ev) ≡ some (edge_of (get_or (x ∷ xs) (if b then 0 else suc (first_place p xs)) 0)).to
+          → (if b then some (edge_of x).to else end_in (map edge_of xs) n ev) ≡ some (edge_of (get_or (x ∷ xs) (if b then 0 else suc (first_place p xs)) no_edge)).to
       go true ih h = refl
       go false ih h = ih (omega arith)
 
-  pub end_none : (xs : List ℕ) → length xs ≤ first_place p xs → end_in (map edge_of xs) n ev ≡ none
+  pub end_none : (xs : List EdgeWord) → length xs ≤ first_place p xs → end_in (map edge_of xs) n ev ≡ none
   unfolding first_place end_in
   end_none [] h = refl
   end_none (x ∷ xs) h = rw (same x) (go (p x) (end_none xs) h)
@@ -158,7 +178,7 @@ module _ (n : ℕ) (ev : Event) (p : ℕ → Bool) (same : (w : ℕ) → is_edge
       go true ih h = absurd (omega arith)
       go false ih h = ih (omega arith)
 
-  pub replace_found : (to w : ℕ) → edge_of w ≡ record { from = n; event = ev; to = to } → (xs : List ℕ) → first_place p xs < length xs
+  pub replace_found : (to : ℕ) (w : EdgeWord) → edge_of w ≡ record { from = n; event = ev; to = to } → (xs : List EdgeWord) → first_place p xs < length xs
       → replace_in (map edge_of xs) (record { from = n; event = ev; to = to }) ≡ map edge_of (set xs (first_place p xs) w)
   unfolding first_place replace_in
   replace_found to w ew [] h = absurd (omega arith)
@@ -170,51 +190,70 @@ module _ (n : ℕ) (ev : Event) (p : ℕ → Bool) (same : (w : ℕ) → is_edge
       go true ih h = ap (λ (e : Edge). e ∷ map edge_of xs) (sym ew)
       go false ih h = ap (λ (l : List Edge). edge_of x ∷ l) (ih (omega arith))
 
--- ---- a word that goes in for an edge, at the place that a search gave
-module _ (ns : List Node) (ws : List ℕ) (from code to i w : ℕ) (hf : from < 65536) (ht : to < 65536)
-    (hi : i ≡ first_place (key_is (from + code * 65536)) ws) (hw : w ≡ to + 65536 * (from + code * 65536)) where
-  private_same : (x : ℕ) → is_edge from (event_at code) (edge_of x) ≡ key_is (from + code * 65536) x
-  private_same x = edge_key from code x hf
+-- ---- an edge's word goes in, at the place that a search for its key gave
+module _ (ns : List Node) (ws : List EdgeWord) (from : ℕ) (ev : Event) (to : ℕ) (w : EdgeWord) (hf : from < 65536) (ht : to < 65536) (coded : event_at (event_code ev) ≡ ev)
+    (hw : w.word ≡ to + 65536 * (from + event_code ev * 65536)) where
+  abbrev at : ℕ
+  at = first_place (key_is (from + event_code ev * 65536)) ws
 
-  word_is : edge_of w ≡ record { from = from; event = event_at code; to = to }
-  word_is = rw hw (edge_word from code to hf ht)
+  key_of_word : key_in w ≡ from + event_code ev * 65536
+  key_of_word = omega arith
 
-  pub edge_replaced : i < length ws → accept (graph_by ns (map edge_of (set ws i w))) ≡ add_edge from to (event_at code) (graph_by ns (map edge_of ws))
+  word_is : edge_of w ≡ record { from = from; event = ev; to = to }
+  word_is = edge_word from ev hf coded to w ht hw
+
+  replaced : at < length ws → accept (graph_by ns (map edge_of (set ws at w))) ≡ add_edge from to ev (graph_by ns (map edge_of ws))
   unfolding add_edge get_edge put_edge
-  edge_replaced h =
-      let l : first_place (key_is (from + code * 65536)) ws < length ws = omega arith in
-      let e = end_found from (event_at code) (key_is (from + code * 65536)) private_same ws l in
-      let q = replace_found from (event_at code) (key_is (from + code * 65536)) private_same to w word_is ws l in
-      rw (e, q, hi)
+  replaced h =
+      let e = end_found from ev (key_is (from + event_code ev * 65536)) (edge_key from ev hf coded) ws h in
+      let q = replace_found from ev (key_is (from + event_code ev * 65536)) (edge_key from ev hf coded) to w word_is ws h in
+      rw (e, q)
 
-  pub edge_appended : length ws ≤ i → length ws < 2048 → accept (graph_by ns (map edge_of (ws ++ (w ∷ [])))) ≡ add_edge from to (event_at code) (graph_by ns (map edge_of ws))
+  appended : length ws ≤ at → length ws < 2048 → accept (graph_by ns (map edge_of (ws ++ (w ∷ [])))) ≡ add_edge from to ev (graph_by ns (map edge_of ws))
   unfolding add_edge get_edge put_edge
-  edge_appended h r =
-      let l : length ws ≤ first_place (key_is (from + code * 65536)) ws = omega arith in
+  appended h r =
       let u : length (map edge_of ws) < 2048 = omega (arith, length-map ws edge_of) in
-      let e = end_none from (event_at code) (key_is (from + code * 65536)) private_same ws l in
+      let e = end_none from ev (key_is (from + event_code ev * 65536)) (edge_key from ev hf coded) ws h in
       rw (e, lt-ltb (length (map edge_of ws)) 2048 u, map-append edge_of ws (w ∷ []), word_is)
 
-  pub edge_full : length ws ≤ i → 2048 ≤ length ws → refuse 3 ≡ add_edge from to (event_at code) (graph_by ns (map edge_of ws))
+  full : length ws ≤ at → 2048 ≤ length ws → refuse 3 ≡ add_edge from to ev (graph_by ns (map edge_of ws))
   unfolding add_edge get_edge put_edge
-  edge_full h r =
-      let l : length ws ≤ first_place (key_is (from + code * 65536)) ws = omega arith in
+  full h r =
       let u : 2048 ≤ length (map edge_of ws) = omega (arith, length-map ws edge_of) in
-      let e = end_none from (event_at code) (key_is (from + code * 65536)) private_same ws l in
+      let e = end_none from ev (key_is (from + event_code ev * 65536)) (edge_key from ev hf coded) ws h in
       rw (e, le-ltb (length (map edge_of ws)) 2048 u)
 
--- ---- the end of the edge that a search found
-module _ (ws : List ℕ) (node code i : ℕ) (hd : node < 65536) (hi : i ≡ first_place (key_is (node + code * 65536)) ws) where
-  pub edge_found : i < length ws → some (get_or ws i 0 % 65536) ≡ end_in (map edge_of ws) node (event_at code)
-  unfolding edge_of
-  edge_found h =
-      let l : first_place (key_is (node + code * 65536)) ws < length ws = omega arith in
-      sym (end_found node (event_at code) (key_is (node + code * 65536)) (λ x. edge_key node code x hd) ws l ∙ rw (← hi))
+  -- i is the place
+  pub edge_added : (i : ℕ) → i ≡ at → length ws ≤ 2048 → unless (ltb i 2048) 3 (accept (graph_by ns (map edge_of (word_put ws w)))) ≡ add_edge from to ev (graph_by ns (map edge_of ws))
+  edge_added i hi short =
+      by_cases (ltb at (length ws))
+      (λ e. let l = ltb-true at (length ws) e in
+      let s : i < 2048 = omega arith in
+      rw (lt-ltb i 2048 s, ← word_over ws w (rw key_of_word l), key_of_word) (replaced l))
+      (λ e. let g = ltb-false at (length ws) e in
+      let m = first_most (key_is (from + event_code ev * 65536)) ws in
+      by_cases (ltb (length ws) 2048)
+      (λ f. let r = ltb-true (length ws) 2048 f in
+      let s : i < 2048 = omega arith in
+      rw (lt-ltb i 2048 s, ← word_behind ws w (rw key_of_word g) r) (appended g r))
+      (λ f. let r = ltb-false (length ws) 2048 f in
+      let s : 2048 ≤ i = omega arith in
+      rw (le-ltb i 2048 s) (full g r)))
 
-  pub edge_missed : length ws ≤ i → none ≡ end_in (map edge_of ws) node (event_at code)
-  edge_missed h =
-      let l : length ws ≤ first_place (key_is (node + code * 65536)) ws = omega arith in
-      sym (end_none node (event_at code) (key_is (node + code * 65536)) (λ x. edge_key node code x hd) ws l)
+-- ---- the end of the edge that a search found
+pub edge_found : (ws : List EdgeWord) (n : ℕ) (ev : Event) (i : ℕ) → n < 65536 → event_at (event_code ev) ≡ ev → i ≡ first_place (key_is (n + event_code ev * 65536)) ws → end_of ws i ≡ end_in (map edge_of ws) n ev
+unfolding end_of edge_of
+edge_found ws n ev i hn coded hi =
+    by_cases (ltb i (length ws))
+    (λ e. let l = subst (λ (j : ℕ). j < length ws) hi (ltb-true i (length ws) e) in
+    rw e (sym (end_found n ev (key_is (n + event_code ev * 65536)) (edge_key n ev hn coded) ws l ∙ rw (← hi))))
+    (λ e. let l = subst (λ (j : ℕ). length ws ≤ j) hi (ltb-false i (length ws) e) in
+    rw e (sym (end_none n ev (key_is (n + event_code ev * 65536)) (edge_key n ev hn coded) ws l)))
+
+-- the same by any number as an event's code
+pub edge_coded : (x : Graph) (n code i : ℕ) → n < 65536 → i ≡ first_place (key_is (n + code * 65536)) (edge_words x) → end_of (edge_words x) i ≡ get_edge (graph_of x) n (event_at code)
+unfolding get_edge graph_of
+edge_coded x n code i hn hi = edge_found (edge_words x) n (event_at code) i hn (ap event_at (code_event code)) (rw (code_event code) hi)
 
 -- ---- following, by whatever gives the end of an event's edge
 module _ (end : Event → Option ℕ) where
@@ -234,25 +273,35 @@ module _ (end : Event → Option ℕ) where
   unfolding follow_first lastly
   follow_ends e = rw e
 
-  -- the first entry of the class table
-  module _ (key w : ℕ) (cs : List ClassEntry) where
-    pub members_other : holds_key (class_at w) key ≡ false → follow_members end key (class_at w ∷ cs) ≡ follow_members end key cs
+  abbrev no_class : ClassWord
+  no_class = record { word = 0 }
+
+  -- the entry at place i of the class table: x is what following by it and those behind it comes to
+  module _ (key : ℕ) (ws : List ClassWord) (i : ℕ) (x : Follow) (all : x ≡ follow_members end key (map class_at (drop i ws))) where
+    pub members_end : length ws ≤ i → x ≡ follow_members end 0 []
     unfolding memberships
-    members_other h = rw h
+    members_end h = all ∙ rw (drop_of_length-le ws h)
 
-    module _ (h : holds_key (class_at w) key ≡ true) where
-      pub members_miss : end (Class (w % 65536)) ≡ none → follow_members end key (class_at w ∷ cs) ≡ follow_members end key cs
-      unfolding memberships class_events follow_first or_else_by class_at
-      members_miss e = rw (h, e)
+    module _ (l : i < length ws) where
+      entry : map class_at (drop i ws) ≡ class_at (get_or ws i no_class) ∷ map class_at (drop (i + 1) ws)
+      entry = rw (drop-cons ws i no_class l, add-one)
 
-      pub members_hit : (to : ℕ) → end (Class (w % 65536)) ≡ some to → follow_members end key (class_at w ∷ cs) ≡ Successor (Class (w % 65536)) to
-      unfolding memberships class_events follow_first or_else_by class_at
-      members_hit to e = rw (h, e)
+      pub members_other : holds_key (class_at (get_or ws i no_class)) key ≡ false → x ≡ follow_members end key (map class_at (drop (i + 1) ws))
+      unfolding memberships
+      members_other h = all ∙ rw (entry, h)
+
+      module _ (h : holds_key (class_at (get_or ws i no_class)) key ≡ true) where
+        pub members_miss : end (Class (class_at (get_or ws i no_class)).class) ≡ none → x ≡ follow_members end key (map class_at (drop (i + 1) ws))
+        unfolding memberships class_events follow_first or_else_by
+        members_miss e = all ∙ rw (entry, h, e)
+
+        pub members_hit : (to : ℕ) → end (Class (class_at (get_or ws i no_class)).class) ≡ some to → x ≡ Successor (Class (class_at (get_or ws i no_class)).class) to
+        unfolding memberships class_events follow_first or_else_by
+        members_hit to e = all ∙ rw (entry, h, e)
 
 -- ---- the node at a number, by its words
-module _ (ps : List NodeWords) (i : ℕ) where
-  pub node_here : i < length ps → (d : NodeWords) → node_in (get_or ps i d) ≡ get_or (map node_in ps) i no_node
-  node_here h d = sym (get_or-map node_in ps i d no_node h)
-
-  pub node_missing : length ps ≤ i → no_node ≡ get_or (map node_in ps) i no_node
-  node_missing h = sym (get_or-eq_default (map node_in ps) no_node (omega (arith, length-map ps node_in)))
+pub node_words : (ps : List NodeWords) (i : ℕ) → node_in (get_or ps i empty_words) ≡ get_or (map node_in ps) i no_node
+unfolding no_node node_at action_at
+node_words [] i = refl
+node_words (p ∷ ps) zero = refl
+node_words (p ∷ ps) (suc i) = node_words ps i

@@ -1,2 +1,3 @@
 -- What the words and the declared types mean in the values of the rules.
 pub mod View
+pub mod Props

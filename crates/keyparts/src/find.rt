@@ -5,10 +5,10 @@ ghost use Rattle.keyvalues.specs.View.{maybe_of, node_in, told};
 ghost use Rattle.keyparts.specs.View.{graph_of};
 
 use crate::graph::Graph;
-use keyvalues::node::NodeWords;
+use keyvalues::list;
+use keyvalues::node::{Node, NodeWords};
 use keyvalues::refusal::Refusal;
 use keyvalues::tables::TableWords;
-use keyvalues::{list, number};
 
 // Is the node of these words of the mode, with a step that has the action? The mode is tested first: most nodes are of another,
 // and need not be read whole.
@@ -16,7 +16,7 @@ use keyvalues::{list, number};
 fn has_action(words: &NodeWords, mode: u16, action: u16) -> bool
     ensures { result ≡ holds_action mode action (node_in words.now) }
 {
-    words.head % 128 == mode as u64 && words.node().holds_action(mode, action)
+    words.mode() == mode && Node::from(*words).holds_action(mode, action)
 }
 
 impl Graph {
@@ -28,19 +28,17 @@ impl Graph {
             return Err(Refusal::OutOfRange);
         }
         let nodes = list::front(&self.nodes, self.counts.nodes);
-        match nodes
+        let place = nodes
             .iter()
-            .position(|words| has_action(words, mode, action))
-        {
-            Some(n) => Ok(Some(n as u16)),
-            None => Ok(None),
-        }
+            .position(|words| has_action(words, mode, action));
+        Ok(place.map(|n| n as u16))
     }
 
     // How many nodes are left.
+    #[tactic(auto, using(crate::proofs::Stores::hint_fits))]
     pub fn free_nodes(&self) -> u16
         ensures { HintFits (graph_of self.now) result }
     {
-        Graph::NODES - number::least_of(self.counts.nodes, Graph::NODES as usize)
+        Graph::NODES.saturating_sub(self.counts.nodes)
     }
 }

@@ -2,12 +2,11 @@
 // has an edge is taken.
 ghost use Rattle.std.specs.Prelude.{◌≡◌, [], map};
 ghost use Rattle.keyvalues.specs.View.{class_at};
-ghost use Rattle.keyparts.specs.View.{follow_of, edge_words, linked_end, follow_links, follow_members};
+ghost use Rattle.keyparts.specs.View.{follow_of, edge_words, end_by, follow_links, follow_members};
 
-use crate::graph::Graph;
-use crate::index::Index;
+use crate::index::IndexedGraph;
+use keyvalues::class::ClassWord;
 use keyvalues::event::EdgeEvent;
-use keyvalues::{class, event, number};
 
 #[derive(Clone, Copy)]
 pub enum FollowResult {
@@ -16,40 +15,44 @@ pub enum FollowResult {
     NoSuccessor,
 }
 
-impl Graph {
+impl<'a> IndexedGraph<'a> {
     // One round: the Key edge, the first membership with a Class edge, Any, then Fallthrough.
-    pub fn follow(&self, index: &Index, classes: &[u64], node: u16, key: u16) -> FollowResult
-        ensures { follow_of result ≡ follow_links (map class_at classes.now) (edge_words self.now) index.now.links node key }
+    #[tactic(auto, using(crate::proofs::Finds::follow_hit, crate::proofs::Finds::follow_miss), unfolding(crate::specs::View::follow_links, rules::specs::Graph::events_of))]
+    pub fn follow(self, classes: &[ClassWord], node: u16, key: u16) -> FollowResult
+        ensures { follow_of result ≡ follow_links (map class_at classes.now) (edge_words self.entry.graph.now) self.entry.index.now.links node key }
     {
-        match index.get_edge(self, node, key as u32) {
-            Some(to) => FollowResult::Successor(EdgeEvent::Key(key), to),
-            None => self.follow_classes(index, classes, node, key),
+        let event = EdgeEvent::Key(key);
+        match self.get_edge(node, event) {
+            Some(to) => FollowResult::Successor(event, to),
+            None => self.follow_classes(classes, node, key),
         }
     }
 
     // The first membership of the key with a Class edge, and else the rest.
-    fn follow_classes(&self, index: &Index, classes: &[u64], node: u16, key: u16) -> FollowResult
-        ensures { follow_of result ≡ follow_members (linked_end (edge_words self.now) index.now.links node) key (map class_at classes.now) }
+    #[tactic(auto, using(crate::proofs::Finds::members_end, crate::proofs::Finds::members_other, crate::proofs::Finds::members_miss, crate::proofs::Finds::members_hit))]
+    fn follow_classes(self, classes: &[ClassWord], node: u16, key: u16) -> FollowResult
+        ensures { follow_of result ≡ follow_members (end_by self.entry node) key (map class_at classes.now) }
     {
         for entry in classes {
-            if class::holds_key(*entry, key) {
-                let of = number::low(*entry);
-                if let Some(to) = index.get_edge(self, node, (of as u32) + 65536) {
-                    return FollowResult::Successor(EdgeEvent::Class(of), to);
+            if entry.holds_key(key) {
+                let event = EdgeEvent::Class(entry.class());
+                if let Some(to) = self.get_edge(node, event) {
+                    return FollowResult::Successor(event, to);
                 }
             }
         }
-        self.follow_rest(index, node)
+        self.follow_rest(node)
     }
 
     // Any, and else Fallthrough.
-    fn follow_rest(&self, index: &Index, node: u16) -> FollowResult
-        ensures { follow_of result ≡ follow_members (linked_end (edge_words self.now) index.now.links node) 0 [] }
+    #[tactic(auto, using(crate::proofs::Finds::follow_hit, crate::proofs::Finds::follow_miss, crate::proofs::Finds::follow_falls, crate::proofs::Finds::follow_ends), unfolding(rules::specs::Tables::memberships, rules::specs::Graph::class_events))]
+    fn follow_rest(self, node: u16) -> FollowResult
+        ensures { follow_of result ≡ follow_members (end_by self.entry node) 0 [] }
     {
-        if let Some(to) = index.get_edge(self, node, event::ANY) {
+        if let Some(to) = self.get_edge(node, EdgeEvent::Any) {
             return FollowResult::Successor(EdgeEvent::Any, to);
         }
-        match index.get_edge(self, node, event::FALLTHROUGH) {
+        match self.get_edge(node, EdgeEvent::Fallthrough) {
             Some(to) => FollowResult::Fallthrough(to),
             None => FollowResult::NoSuccessor,
         }

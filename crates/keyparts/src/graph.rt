@@ -1,9 +1,10 @@
 // A graph by value: the words of its edges and of its nodes, and how many of each count.
-ghost use Rattle.std.specs.Prelude.{◌≡◌};
+ghost use Rattle.std.specs.Prelude.{◌≡◌, get_or, take};
 ghost use Rattle.rules.specs.Graph as g;
 ghost use Rattle.keyvalues.specs.View.{node_of, node_in};
-ghost use Rattle.keyparts.specs.View.{graph_of};
+ghost use Rattle.keyparts.specs.View.{empty_words, graph_of};
 
+use crate::edge::EdgeWord;
 use keyvalues::list;
 use keyvalues::node::{Node, NodeWords};
 use keyvalues::tables::TableWords;
@@ -19,7 +20,7 @@ pub struct Counts {
 #[repr(C)]
 #[derive(Clone, Copy)]
 pub struct Graph {
-    pub edges: [u64; Graph::EDGES as usize],
+    pub edges: [EdgeWord; Graph::EDGES as usize],
     pub nodes: [NodeWords; Graph::NODES as usize],
     pub counts: Counts,
 }
@@ -38,15 +39,12 @@ impl Graph {
     pub fn fresh() -> Graph
         ensures { graph_of result ≡ g.fresh_graph }
     {
-        let mut nodes = [NodeWords { head: 0, acts: 0 }; Graph::NODES as usize];
-        for mode in 0..Graph::ROOTS {
-            nodes[mode as usize] = NodeWords {
-                head: 128 + (mode as u64),
-                acts: 0,
-            };
+        let mut nodes = [NodeWords::EMPTY; Graph::NODES as usize];
+        for (mode, words) in nodes[..Graph::ROOTS as usize].iter_mut().enumerate() {
+            *words = NodeWords::root(mode as u16);
         }
         Graph {
-            edges: [0; Graph::EDGES as usize],
+            edges: [EdgeWord::NONE; Graph::EDGES as usize],
             nodes: nodes,
             counts: Counts {
                 nodes: Graph::ROOTS,
@@ -56,19 +54,22 @@ impl Graph {
     }
 
     // The words of a node; those of an empty node of mode 0, where there is no such node.
+    #[tactic(auto, using(crate::proofs::Finds::node_words), unfolding(rules::specs::Graph::get_node, crate::specs::View::graph_of))]
     pub fn words(&self, node: u16) -> NodeWords
-        ensures { node_in result ≡ g.get_node (graph_of self.now) node }
+        ensures words { result ≡ get_or (take self.now.counts.nodes self.now.nodes) node empty_words }
+        ensures node { node_in result ≡ g.get_node (graph_of self.now) node }
     {
-        match list::front(&self.nodes, self.counts.nodes).get(node as usize) {
-            Some(words) => *words,
-            None => NodeWords { head: 0, acts: 0 },
-        }
+        let words = list::front(&self.nodes, self.counts.nodes);
+        words
+            .get(node as usize)
+            .copied()
+            .unwrap_or(NodeWords::EMPTY)
     }
 
     // The node at a number.
     pub fn node(&self, node: u16) -> Node
         ensures { node_of result ≡ g.get_node (graph_of self.now) node }
     {
-        self.words(node).node()
+        Node::from(self.words(node))
     }
 }

@@ -3,11 +3,12 @@
 // next on its chain, and behind the 2,048 links of the edges stand the links to the first edge of each chain. Every value
 // of the links leads somewhere, and the search ends on all of them.
 ghost use Rattle.std.specs.Prelude.{◌≡◌, ◌<◌};
-ghost use Rattle.keyvalues.specs.View.{event_at, maybe_of};
-ghost use Rattle.keyparts.specs.View.{edge_words, chain_of, linked_place, linked_end, link_at, Indexed};
+ghost use Rattle.keyvalues.specs.View.{event_of, maybe_of};
+ghost use Rattle.keyparts.specs.View.{edge_words, end_by, chain_of, linked_place, link_at, Indexed};
 
+use crate::edge;
 use crate::graph::Graph;
-use keyvalues::number;
+use keyvalues::event::EdgeEvent;
 
 #[repr(C)]
 #[derive(Clone, Copy)]
@@ -15,7 +16,16 @@ pub struct Index {
     pub links: [u16; Index::LINKS],
 }
 
-// Which link leads to the first edge of the chain for the upper part of an edge's word.
+// A graph and links that lead to its edges, lent together. Any links will do: what is found is what they lead to, and those of
+// an index of the graph lead to what a search of all edges finds.
+#[derive(Clone, Copy)]
+pub struct IndexedGraph<'a> {
+    pub graph: &'a Graph,
+    pub index: &'a Index,
+}
+
+// Which link leads to the first edge of the chain that edges with this key are on.
+#[tactic(auto, unfolding(crate::specs::View::chain_of))]
 fn chain_of(key: u64) -> usize
     ensures { (result ≡ chain_of key) × (result < 2304) }
 {
@@ -33,17 +43,17 @@ impl Index {
     pub fn new(graph: &Graph) -> Index
         ensures { Indexed (edge_words graph.now) result.links }
     {
-        let words = graph.edge_words();
         let mut index = Index {
             links: [Graph::EDGES; Index::LINKS],
         };
-        for place in (0..words.len()).rev() {
-            index.link(place, words[place] / 65536);
+        for (place, word) in graph.edge_words().iter().enumerate().rev() {
+            index.link(place, word.key());
         }
         index
     }
 
     // The edge at this place goes before the chain of its key.
+    #[tactic(auto, unfolding(crate::specs::View::link_at), using(crate::proofs::Links::link_is))]
     pub fn link(&mut self, place: usize, key: u64)
         ensures { self.new.links ≡ link_at self.old.links place key }
     {
@@ -54,32 +64,34 @@ impl Index {
         self.links[place] = self.links[chain];
         self.links[chain] = place as u16;
     }
+}
 
+impl<'a> IndexedGraph<'a> {
     // The place of the edge with this key, or the number of edges. As many steps as there may be edges end the search on links
     // that lead in a circle.
-    pub fn place(&self, graph: &Graph, key: u64) -> usize
-        ensures { result ≡ linked_place (edge_words graph.now) self.now.links key }
+    #[tactic(auto, using(crate::proofs::Links::chain_end, crate::proofs::Links::chain_out, crate::proofs::Links::chain_hit, crate::proofs::Links::chain_miss), unfolding(crate::specs::View::linked_place))]
+    pub fn place(self, key: u64) -> usize
+        ensures { result ≡ linked_place (edge_words self.entry.graph.now) self.entry.index.now.links key }
     {
-        let words = graph.edge_words();
-        let mut at = self.links[chain_of(key)] as usize;
+        let words = self.graph.edge_words();
+        let mut at = self.index.links[chain_of(key)] as usize;
         for _ in 0..Graph::EDGES {
             if words.len() <= at {
                 return words.len();
             }
-            if words[at] / 65536 == key {
+            if words[at].key() == key {
                 return at;
             }
-            at = self.links[at] as usize;
+            at = self.index.links[at] as usize;
         }
         words.len()
     }
 
-    // The end of the node's edge for the event of the code.
-    pub fn get_edge(&self, graph: &Graph, node: u16, code: u32) -> Option<u16>
-        ensures { maybe_of result ≡ linked_end (edge_words graph.now) self.now.links node (event_at code) }
+    // The end of the node's edge for the event.
+    #[tactic(auto, using(crate::proofs::Links::linked_found))]
+    pub fn get_edge(self, node: u16, event: EdgeEvent) -> Option<u16>
+        ensures { maybe_of result ≡ end_by self.entry node (event_of event) }
     {
-        let place = self.place(graph, number::key_of(node, code));
-        let word = graph.edge_words().get(place)?;
-        Some(number::low(*word))
+        self.graph.end_at(self.place(edge::key_of(node, event)))
     }
 }

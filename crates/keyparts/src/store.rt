@@ -1,100 +1,88 @@
 // Stores: an edge, a node more, and the step of a node that is there.
-ghost use Rattle.std.specs.Prelude.{◌≡◌, ◌+◌, ◌*◌, List, ℕ, length};
+ghost use Rattle.std.specs.Prelude.{◌≡◌, map, ltb};
+ghost use Rattle.rules.specs.Basics as b;
 ghost use Rattle.rules.specs.Graph as g;
-ghost use Rattle.keyvalues.specs.View.{event_at, maybe_of, node_in, told};
-ghost use Rattle.keyparts.specs.View.{graph_of, edge_words, first_place, key_is, Indexed, link_more};
+ghost use Rattle.keyvalues.specs.View.{event_of, graph_by, node_in, told};
+ghost use Rattle.keyparts.specs.View.{edge_of, edge_words, first_place, graph_of, key_in, key_is, word_put};
 
+use crate::edge;
+use crate::edge::EdgeWord;
 use crate::graph::Graph;
-use crate::index::Index;
+use crate::search::{Scan, Search};
+use keyvalues::event::EdgeEvent;
+use keyvalues::list;
 use keyvalues::node::NodeWords;
-use keyvalues::number;
 use keyvalues::refusal::Refusal;
 
 impl Graph {
-    // An edge at the place that a search for its start and event gave: it goes in for the one that stands there, and else
-    // behind the last, which is the place that a search without a hit gives. An index stays true, but that an edge more is
-    // yet to be linked.
-    fn put_edge(&mut self, place: usize, from: u16, to: u16, code: u32) -> Result<(), Refusal>
-        requires { place ≡ first_place (key_is (from + code * 65536)) (edge_words self.old) }
-        ensures stored { told (λ _. graph_of self.new) result ≡ g.add_edge from to (event_at code) (graph_of self.old) }
-        ensures indexed { (ls : List ℕ) → Indexed (edge_words self.old) ls → Indexed (edge_words self.new) (link_more ls (length (edge_words self.old)) place (from + code * 65536)) }
+    // An edge's word goes to the place that a search for its key gave: in for the one that stands there, and else behind the
+    // last, which is the place that a search without a hit gives.
+    #[tactic(auto, using(crate::proofs::Stores::put_over, crate::proofs::Stores::put_behind, crate::proofs::Stores::put_nowhere, crate::proofs::Stores::stored_over, crate::proofs::Stores::stored_behind, crate::proofs::Stores::stored_nowhere))]
+    fn put_edge(&mut self, place: usize, word: EdgeWord) -> Result<(), Refusal>
+        ensures words { place ≡ first_place (key_is (key_in word)) (edge_words self.old) → edge_words self.new ≡ word_put (edge_words self.old) word }
+        ensures stored { place ≡ first_place (key_is (key_in word)) (edge_words self.old) → told (λ _. graph_of self.new) result ≡ b.unless (ltb place 2048) 3 (b.accept (graph_by (graph_of self.old).nodes (map edge_of (edge_words self.new)))) }
     {
-        let count = number::least_of(self.counts.edges, Graph::EDGES as usize);
-        if Graph::EDGES as usize <= place {
-            return Err(Refusal::EdgesFull);
+        if place < self.edge_words().len() {
+            self.edges[place] = word;
+            return Ok(());
         }
-        self.edges[place] = (to as u64) + 65536 * number::key_of(from, code);
-        if count as usize <= place {
-            self.counts.edges = count + 1;
-        }
+        let count = list::append(&mut self.edges, self.counts.edges, word);
+        self.counts.edges = count.ok_or(Refusal::EdgesFull)?;
         Ok(())
     }
 
-    // An edge between any two nodes, for the event of the code.
-    pub fn add_edge(&mut self, from: u16, to: u16, code: u32) -> Result<(), Refusal>
-        ensures { told (λ _. graph_of self.new) result ≡ g.add_edge from to (event_at code) (graph_of self.old) }
+    // An edge between any two nodes, for the event.
+    pub fn add_edge(&mut self, from: u16, to: u16, event: EdgeEvent) -> Result<(), Refusal>
+        ensures { told (λ _. graph_of self.new) result ≡ g.add_edge from to (event_of event) (graph_of self.old) }
     {
-        let place = self.place(number::key_of(from, code));
-        self.put_edge(place, from, to, code)
+        self.add_edge_by(&mut Scan {}, from, to, event)
     }
 
-    // The same by an index, which is then one of the edges with the new one. Where there was no room, it stays as it is: place
-    // 2,048 is linked nowhere.
-    pub fn add_edge_by(
+    // The same by any search that knows the edges. It then knows those with the new one.
+    #[tactic(auto, using(crate::proofs::Finds::edge_added, crate::proofs::Links::edges_short), unfolding(crate::specs::View::graph_of))]
+    pub fn add_edge_by<S: Search>(
         &mut self,
-        index: &mut Index,
+        search: &mut S,
         from: u16,
         to: u16,
-        code: u32,
+        event: EdgeEvent,
     ) -> Result<(), Refusal>
-        requires { Indexed (edge_words self.old) index.old.links }
-        ensures stored { told (λ _. graph_of self.new) result ≡ g.add_edge from to (event_at code) (graph_of self.old) }
-        ensures indexed { Indexed (edge_words self.new) index.new.links }
+        ensures stored { S.Knows self.old search.old → told (λ _. graph_of self.new) result ≡ g.add_edge from to (event_of event) (graph_of self.old) }
+        ensures knows { S.Knows self.old search.old → S.Knows self.new search.new }
     {
-        let key = number::key_of(from, code);
-        let place = index.place(self, key);
+        let key = edge::key_of(from, event);
+        let place = search.place(self, key);
         let count = self.edge_words().len();
-        let stored = self.put_edge(place, from, to, code);
-        if count <= place {
-            index.link(place, key);
-        }
+        let stored = self.put_edge(place, EdgeWord::of(key, to));
+        search.link(count, place, key);
         stored
     }
 
-    // The end of the node's edge for the event of the code, by an index.
-    pub fn get_edge_by(&self, index: &Index, node: u16, code: u32) -> Option<u16>
-        requires { Indexed (edge_words self.now) index.now.links }
-        ensures { maybe_of result ≡ g.get_edge (graph_of self.now) node (event_at code) }
-    {
-        index.get_edge(self, node, code)
-    }
-
     // A node more, and its number.
+    #[tactic(auto, using(crate::proofs::Stores::node_added, crate::proofs::Stores::node_none), unfolding(crate::specs::View::edge_words))]
     pub fn add_node(&mut self, words: NodeWords) -> Result<u16, Refusal>
         ensures stored { told (λ n. (graph_of self.new, n)) result ≡ g.add_node (node_in words).mode (node_in words).action (graph_of self.old) }
         ensures edges_kept { edge_words self.new ≡ edge_words self.old }
     {
         let node = self.counts.nodes;
-        if Graph::NODES <= node {
-            return Err(Refusal::NodesFull);
-        }
-        self.nodes[node as usize] = words;
-        self.counts.nodes = node + 1;
+        let count = list::append(&mut self.nodes, node, words);
+        self.counts.nodes = count.ok_or(Refusal::NodesFull)?;
         Ok(node)
     }
 
     // The node at the end of an edge that is there: if the words hold a step, it gets them and is held to their mode.
+    #[tactic(auto, using(crate::proofs::Stores::settle_small, crate::proofs::Stores::settle_differs, crate::proofs::Stores::settle_put, crate::proofs::Stores::settle_past), unfolding(crate::specs::View::edge_words))]
     pub fn settle(&mut self, node: u16, words: NodeWords) -> Result<(), Refusal>
         ensures stored { told (λ _. (graph_of self.new, node)) result ≡ g.settle (node_in words).mode node (node_in words).action (graph_of self.old) }
         ensures edges_kept { edge_words self.new ≡ edge_words self.old }
     {
-        if words.head / 128 % 4 < 2 {
+        if !words.holds_step() {
             return Ok(());
         }
-        if self.words(node).head % 128 != words.head % 128 {
+        if self.words(node).mode() != words.mode() {
             return Err(Refusal::OtherMode);
         }
-        if node < number::least_of(self.counts.nodes, Graph::NODES as usize) {
+        if node < self.counts.nodes.min(Graph::NODES) {
             self.nodes[node as usize] = words;
         }
         Ok(())

@@ -1,11 +1,11 @@
 -- What the words of tables and the declared types mean, in the values of the rules. Every word decodes to something.
-use Rattle.std.specs.Prelude.{ℕ, ◌/◌, ◌%◌, List, map, take}
+use Rattle.std.specs.Prelude.{◌/◌, ◌%◌, List, map, take}
 use Rattle.rules.specs.Tables as t
-use Rattle.keyvalues.specs.View.{four_of, opt_of, class_table, mode_table, rule_table, maybe_of, fit}
+use Rattle.keyvalues.specs.View.{four_of, opt_of, class_table, mode_table, rule_table, maybe_of, actions_by, whole_actions, fit}
 use Rattle.keyvalues.specs.declared.tables.TableWords.{TableWords}
 use Rattle.keyvalues.specs.declared.tables.ModeWords.{ModeWords}
+use Rattle.keyvalues.specs.declared.tables.RuleWord.{RuleWord}
 use Rattle.keytables.specs.declared.rule.Rule.{Rule}
-use Rattle.keytables.specs.declared.tables.Actions.{Actions}
 use Rattle.keytables.specs.declared.tables.ClassEntry.{ClassEntry}
 use Rattle.keytables.specs.declared.tables.Tables.{Tables}
 use Rattle.keytables.specs.declared.tables.ModeEntry.{ModeEntry}
@@ -18,20 +18,16 @@ class_by c = record { class = c.class; low = c.low; high = c.high }
 abbrev pub rule_by : Rule → t.Rule
 rule_by r = record { mode = r.mode; low = r.low; high = r.high; sequence = r.sequence; status = r.status }
 
-unfoldable pub rule_of : ℕ → t.Rule
+unfoldable pub rule_of : RuleWord → t.Rule
 rule_of w = record {
-  mode = w % 16;
-  low = w / 1024 % 65536;
-  high = w / 67108864 % 65536;
-  sequence = w / 16 % 8;
-  status = w / 128 % 8;
+  mode = w.word % 16;
+  low = w.word / 1024 % 65536;
+  high = w.word / 67108864 % 65536;
+  sequence = w.word / 16 % 8;
+  status = w.word / 128 % 8;
 }
 
 -- ---- modes
-
--- a list of actions with the actions that are there
-abbrev pub actions_by : Actions → List ℕ
-actions_by a = take a.count a.items
 
 unfoldable pub entry_by : ModeEntry → t.ModeEntry
 entry_by e = record { enter = actions_by e.enter; unmapped = actions_by e.unmapped; next = maybe_of e.next }
@@ -54,9 +50,6 @@ abbrev pub tables_of : TableWords → t.Tables
 tables_of w = tables (class_table w) (map entry_in (mode_table w)) (map rule_of (rule_table w))
 
 -- ---- what a caller hands over: as many as the count says, also where it is past the array's end
-
-abbrev pub whole_actions : Actions → List ℕ
-whole_actions a = fit 0 a.count a.items
 
 unfoldable pub whole_entry : ModeEntry → t.ModeEntry
 whole_entry e = record { enter = whole_actions e.enter; unmapped = whole_actions e.unmapped; next = maybe_of e.next }

@@ -1,11 +1,8 @@
 // The entries of the tables: what is in range, and the words that an entry is kept in.
-ghost use Rattle.std.specs.Prelude.{◌≡◌, true, Bool, ◌&&◌, leb, length, take, OnOk};
-ghost use Rattle.std.specs.List.{list_all, AllZip};
-ghost use Rattle.rules.specs.Basics.{accept, unless};
-ghost use Rattle.keyvalues.specs.View.{told};
+ghost use Rattle.std.specs.Prelude.{◌≡◌, true, Bool, ◌&&◌, leb, length, take};
+ghost use Rattle.std.specs.List.{list_all};
 
 use keyvalues::list;
-use keyvalues::refusal::Refusal;
 
 pub trait Entry: Copy {
     type Words: Copy;
@@ -18,29 +15,20 @@ pub trait Entry: Copy {
     fn valid(&self) -> bool
         ensures { result ≡ in_range self.now };
 
+    // Where the entry is out of range, the words may be another entry's.
     fn pack(&self) -> Self::Words
-        requires { in_range self.now ≡ true }
-        ensures { means result self.now };
+        ensures { in_range self.now ≡ true → means result self.now };
 }
 
-// The words of the first `count` entries, if there are as many and each is in range.
-pub(crate) fn pack_table<E: Entry>(
-    entries: &[E],
-    count: u16,
-    words: &mut [E::Words],
-) -> Result<u16, Refusal>
-    requires { length entries.now ≡ length words.old }
-    ensures answer { told (λ n. n) result ≡ unless (leb count (length entries.now) && list_all E.in_range (take count entries.now)) 1 (accept count) }
-    ensures packed { OnOk result (AllZip E.means (take count words.new) (take count entries.now)) }
+fn all_valid<E: Entry>(entries: &[E]) -> bool
+    ensures { result ≡ list_all E.in_range entries.now }
 {
-    if entries.len() < count as usize {
-        return Err(Refusal::OutOfRange);
-    }
-    for (i, entry) in list::front(entries, count).iter().enumerate() {
-        if !entry.valid() {
-            return Err(Refusal::OutOfRange);
-        }
-        words[i] = entry.pack();
-    }
-    Ok(count)
+    entries.iter().all(|entry| entry.valid())
+}
+
+// Are there as many entries as the count says, and is each of them in range?
+pub(crate) fn table_valid<E: Entry>(entries: &[E], count: u16) -> bool
+    ensures { result ≡ (leb count (length entries.now) && list_all E.in_range (take count entries.now)) }
+{
+    count as usize <= entries.len() && all_valid(list::front(entries, count))
 }

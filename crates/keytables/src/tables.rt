@@ -1,32 +1,26 @@
 // The tables that a machine is opened with. A caller fills them with any numbers, and `pack` tells whether they are in
 // range and makes the words that a machine keeps.
-ghost use Rattle.std.specs.Prelude.{◌≡◌, leb, length};
+ghost use Rattle.std.specs.Prelude.{◌≡◌};
 ghost use Rattle.rules.specs.Basics.{accept, unless};
 ghost use Rattle.rules.specs.Tables as t;
-ghost use Rattle.keyvalues.specs.View.{four_of, class_at, told};
-ghost use Rattle.keytables.specs.View.{whole_actions, entry_by, entry_in, whole_entry, class_by, whole_tables, tables_of};
+ghost use Rattle.keyvalues.specs.View.{class_at, told};
+ghost use Rattle.keytables.specs.View.{entry_by, entry_in, whole_entry, class_by, whole_tables, tables_of};
 
 use crate::entry;
 use crate::entry::Entry;
 use crate::rule::Rule;
+use keyvalues::actions::Actions;
+use keyvalues::class::ClassWord;
 use keyvalues::event::EdgeEvent;
 use keyvalues::refusal::Refusal;
-use keyvalues::step::Step;
-use keyvalues::tables::{ModeWords, Sizes, TableWords};
-use keyvalues::{class, node, number, step};
+use keyvalues::tables::{ModeWords, TableWords};
+use keyvalues::{node, step};
 
-#[derive(Clone, Copy, Debug, PartialEq, Eq)]
+#[derive(Clone, Copy, Debug, PartialEq, Eq, Default)]
 pub struct ClassEntry {
     pub class: u16,
     pub low: u16,
     pub high: u16,
-}
-
-// The first `count` actions are the list. A count over 4 is a list that every call refuses.
-#[derive(Clone, Copy, Debug, PartialEq, Eq)]
-pub struct Actions {
-    pub items: [u16; Step::ACTIONS as usize],
-    pub count: u16,
 }
 
 // What entering the mode gives, what a key with no binding gives, and which mode such a key leads to.
@@ -35,6 +29,14 @@ pub struct ModeEntry {
     pub enter: Actions,
     pub unmapped: Actions,
     pub next: Option<u16>,
+}
+
+// How many classes, modes and rules count.
+#[derive(Clone, Copy, Debug, PartialEq, Eq, Default)]
+pub struct Sizes {
+    pub classes: u16,
+    pub modes: u16,
+    pub rules: u16,
 }
 
 // The sizes tell how many entries of each count. More than the arrays hold are tables that open refuses.
@@ -46,8 +48,23 @@ pub struct Tables {
     pub sizes: Sizes,
 }
 
+impl From<ClassWord> for ClassEntry {
+    ghost from_gives = { λ word entry. class_by entry ≡ class_at word };
+
+    // The entry of a class's word.
+    fn from(word: ClassWord) -> ClassEntry
+        ensures { class_by result ≡ class_at word }
+    {
+        ClassEntry {
+            class: word.class(),
+            low: word.first(),
+            high: word.last(),
+        }
+    }
+}
+
 impl Entry for ClassEntry {
-    type Words = u64;
+    type Words = ClassWord;
 
     ghost in_range = { λ e. t.class_valid (class_by e) };
 
@@ -58,66 +75,52 @@ impl Entry for ClassEntry {
         self.class < EdgeEvent::CLASSES && self.low <= self.high
     }
 
-    fn pack(&self) -> u64 {
-        class::class_word(self.class, self.low, self.high)
+    fn pack(&self) -> ClassWord {
+        ClassWord::of(self.class, self.low, self.high)
     }
 }
 
-impl Actions {
-    pub fn valid(self) -> bool
-        ensures { result ≡ leb (length (whole_actions self)) 4 }
-    {
-        self.count <= Step::ACTIONS
-    }
+impl Default for ModeEntry {
+    ghost is_default = { λ entry. entry_by entry ≡ t.no_entry };
 
-    fn pack(self) -> u64
-        ensures { four_of result ≡ self.items }
+    // Empty lists and no next mode.
+    #[tactic(auto, unfolding(rules::specs::Tables::no_entry, crate::specs::View::entry_by))]
+    fn default() -> ModeEntry
+        ensures { entry_by result ≡ t.no_entry }
     {
-        number::four_word(self.items)
+        ModeEntry {
+            enter: Actions::default(),
+            unmapped: Actions::default(),
+            next: None,
+        }
     }
 }
 
 impl ModeEntry {
-    // Empty lists and no next mode.
-    pub fn empty() -> ModeEntry
-        ensures { entry_by result ≡ t.no_entry }
-    {
-        let actions = Actions {
-            items: [0u16; Step::ACTIONS as usize],
-            count: 0,
-        };
-        ModeEntry {
-            enter: actions,
-            unmapped: actions,
-            next: None,
-        }
-    }
-
-    // The entry of a mode's words.
-    #[tactic(auto, unfolding(crate::specs::View::entry_by, crate::specs::View::entry_in))]
-    fn unpack(words: ModeWords) -> ModeEntry
-        ensures { entry_by result ≡ entry_in words }
-    {
-        ModeEntry {
-            enter: Actions {
-                items: number::actions_in(words.enter),
-                count: number::bits3(words.head),
-            },
-            unmapped: Actions {
-                items: number::actions_in(words.unmapped),
-                count: number::bits3(words.head / 8),
-            },
-            next: node::unopt(words.head / 64),
-        }
-    }
-
     // The entry of a mode; empty lists and no next mode where the table does not reach.
+    #[tactic(auto, unfolding(rules::specs::Tables::mode_entry))]
     pub fn of(tables: &TableWords, mode: u16) -> ModeEntry
         ensures { entry_by result ≡ t.mode_entry (tables_of tables.now).modes mode }
     {
         match tables.mode(mode) {
-            Some(words) => ModeEntry::unpack(words),
-            None => ModeEntry::empty(),
+            Some(words) => ModeEntry::from(words),
+            None => ModeEntry::default(),
+        }
+    }
+}
+
+impl From<ModeWords> for ModeEntry {
+    ghost from_gives = { λ words entry. entry_by entry ≡ entry_in words };
+
+    // The entry of a mode's words.
+    #[tactic(auto, unfolding(crate::specs::View::entry_by, crate::specs::View::entry_in))]
+    fn from(words: ModeWords) -> ModeEntry
+        ensures { entry_by result ≡ entry_in words }
+    {
+        ModeEntry {
+            enter: Actions::of_word(words.enter, (words.head % 8) as u16),
+            unmapped: Actions::of_word(words.unmapped, (words.head / 8 % 8) as u16),
+            next: node::unopt(words.head / 64),
         }
     }
 }
@@ -134,10 +137,11 @@ impl Entry for ModeEntry {
         self.enter.valid() && self.unmapped.valid() && step::mode_valid(self.next)
     }
 
+    #[tactic(auto, using(keyvalues::proofs::Ranges::fit_take, keyvalues::proofs::Ranges::fit_length), unfolding(rules::specs::Tables::mode_valid, crate::specs::View::entry_in, crate::specs::View::whole_entry))]
     fn pack(&self) -> ModeWords {
         ModeWords {
-            enter: self.enter.pack(),
-            unmapped: self.unmapped.pack(),
+            enter: self.enter.word(),
+            unmapped: self.unmapped.word(),
             head: (self.enter.count as u64)
                 + 8 * (self.unmapped.count as u64)
                 + 64 * node::opt(self.next),
@@ -145,48 +149,48 @@ impl Entry for ModeEntry {
     }
 }
 
-impl Tables {
+impl Default for Tables {
+    ghost is_default = { λ tables. whole_tables tables ≡ t.no_tables };
+
     // No entry at all.
-    pub fn empty() -> Tables
+    #[tactic(auto, unfolding(rules::specs::Tables::no_tables, crate::specs::View::whole_tables, keyvalues::specs::View::fit))]
+    fn default() -> Tables
         ensures { whole_tables result ≡ t.no_tables }
     {
-        let class = ClassEntry {
-            class: 0,
-            low: 0,
-            high: 0,
-        };
-        let mode = ModeEntry::empty();
-        let rule = Rule {
-            mode: 0,
-            low: 0,
-            high: 0,
-            sequence: 0,
-            status: 0,
-        };
         Tables {
-            classes: [class; TableWords::CLASSES as usize],
-            modes: [mode; TableWords::MODES as usize],
-            rules: [rule; TableWords::RULES as usize],
-            sizes: Sizes {
-                classes: 0,
-                modes: 0,
-                rules: 0,
-            },
+            classes: [ClassEntry::default(); TableWords::CLASSES as usize],
+            modes: [ModeEntry::default(); TableWords::MODES as usize],
+            rules: [Rule::default(); TableWords::RULES as usize],
+            sizes: Sizes::default(),
         }
     }
+}
 
-    // Are the tables in range? If so, the words are theirs.
+impl Tables {
+    // Does each table hold as many entries as its size says, each of them in range?
+    #[tactic(auto, using(crate::proofs::Packs::tables_ok))]
+    fn valid(&self) -> bool
+        ensures { result ≡ t.tables_valid (whole_tables self.now) }
+    {
+        entry::table_valid(&self.classes, self.sizes.classes)
+            && (entry::table_valid(&self.modes, self.sizes.modes)
+                && entry::table_valid(&self.rules, self.sizes.rules))
+    }
+
+    // The words of tables that are in range. Entries past the sizes may come out as any words, and are never read.
     pub fn pack(&self) -> Result<TableWords, Refusal>
         ensures { told tables_of result ≡ unless (t.tables_valid (whole_tables self.now)) 1 (accept (whole_tables self.now)) }
     {
-        let mut words = TableWords::EMPTY;
-        words.class_count = entry::pack_table(
-            &self.classes,
-            self.sizes.classes,
-            &mut words.classes,
-        )?;
-        words.mode_count = entry::pack_table(&self.modes, self.sizes.modes, &mut words.modes)?;
-        words.rule_count = entry::pack_table(&self.rules, self.sizes.rules, &mut words.rules)?;
-        Ok(words)
+        if !self.valid() {
+            return Err(Refusal::OutOfRange);
+        }
+        Ok(TableWords {
+            class_count: self.sizes.classes,
+            classes: self.classes.map(|entry| entry.pack()),
+            mode_count: self.sizes.modes,
+            modes: self.modes.map(|entry| entry.pack()),
+            rule_count: self.sizes.rules,
+            rules: self.rules.map(|entry| entry.pack()),
+        })
     }
 }

@@ -3,3 +3,4 @@ pub mod Words
 pub mod Lists
 pub mod Nodes
 pub mod Ranges
+pub mod Maps

@@ -1,21 +1,13 @@
--- Lists that a loop goes along, as they stand and seen through a view.
-use Prim.Native.Nat.{ℕ, zero, suc}
+-- A test of a list seen through a view is the rules' test of what is seen.
+use Prim.Native.Nat.{ℕ}
 use mathlib.Core.Path.{◌≡◌, refl, sym, ap}
 use mathlib.Core.List.{List, [], ◌∷◌, map}
-use lib.ListN.{set}
 use lib.Dec.{eqb}
 use borrow.Author.Tests.{eqb-true, eq-eqb}
 use Rattle.rules.proofs.Tests.{both_ways}
 use Rattle.std.specs.List.{list_all, list_any}
 use Rattle.rules.specs.Basics.{every, some_of}
 use mathlib.Core.Bool.{Bool, ◌&&◌}
-
-pub map_set : {A B : Type 0} (f : A → B) (l : List A) (i : ℕ) (a : A) → map f (set l i a) ≡ set (map f l) i (f a)
-map_set f [] i a = refl
-map_set f (x ∷ l) zero a = refl
-map_set f (x ∷ l) (suc i) a = ap (λ (r : List _). f x ∷ r) (map_set f l i a)
-
--- ---- tests of a list, in the rules' words and in the library's
 
 pub every_viewed : {A B : Type 0} (f : A → B) (p : B → Bool) (l : List A) → list_all (λ x. p (f x)) l ≡ every p (map f l)
 unfolding every

@@ -1,35 +1,29 @@
--- What settling a node's words comes to.
-use Rattle.std.specs.Prelude.{if◌then◌else◌}
-use Prim.Native.Nat.{ℕ, ◌/◌, ◌%◌, ◌<◌, ◌≤◌}
+-- What settling a node comes to, by whether its action is a step.
+use Prim.Native.Nat.{ℕ}
 use mathlib.Core.Path.{◌≡◌, refl}
-use mathlib.Core.Bool.{Bool, true, false}
-use native.Mathlib.Omega.{arith}
+use mathlib.Core.Bool.{true, false}
 use lib.Dec.{eqb}
 use lib.ListN.{set}
-use borrow.Author.Tests.{ne_eqb, eqb-false}
 use Rattle.rules.specs.Basics.{accept, unless}
-use Rattle.rules.specs.Graph.{Empty, Root, Holds, Graph, settle, get_node}
-use Rattle.keyvalues.specs.View.{node_at, action_at, step_at}
+use Rattle.rules.specs.Graph.{Empty, Root, Holds, Node, Graph, settle, get_node}
+use Rattle.keyvalues.specs.View.{holds_step}
 
 -- a node that is there gets the step
-pub settle_plain : (h w node : ℕ) (g : Graph) → h / 128 % 4 < 2 → accept (g, node) ≡ settle (node_at h w).mode node (node_at h w).action g
-unfolding node_at action_at settle
-settle_plain h w node g k = pick (eqb (h / 128 % 4) 0) (eqb (h / 128 % 4) 1) refl refl
+pub settle_plain : (n : Node) (node : ℕ) (g : Graph) → holds_step n.action ≡ false → accept (g, node) ≡ settle n.mode node n.action g
+unfolding settle holds_step
+settle_plain n node g h = go n.action h
   where
-    pick : (a b : Bool) → eqb (h / 128 % 4) 0 ≡ a → eqb (h / 128 % 4) 1 ≡ b
-        → accept (g, node) ≡ settle (h % 128) node (if a then Empty else (if b then Root else Holds (step_at (h / 128 / 4) w))) g
-    pick true b ea eb = refl
-    pick false true ea eb = refl
-    pick false false ea eb =
-        let x = eqb-false (h / 128 % 4) 0 ea in
-        let y = eqb-false (h / 128 % 4) 1 eb in
-        absurd (omega arith)
+    go : (a : _) → holds_step a ≡ false → accept (g, node) ≡ settle n.mode node a g
+    go Empty h = refl
+    go Root h = refl
+    go (Holds s) h = absurd cc
 
-pub settle_holds : (h w node : ℕ) (g : Graph) → 2 ≤ h / 128 % 4
-    → settle (node_at h w).mode node (node_at h w).action g
-    ≡ unless (eqb (get_node g node).mode (h % 128)) 4 (accept (record { nodes = set g.nodes node (node_at h w); edges = g.edges }, node))
-unfolding node_at action_at settle
-settle_holds h w node g k =
-    let a : eqb (h / 128 % 4) 0 ≡ false = ne_eqb (h / 128 % 4) 0 (λ (z : h / 128 % 4 ≡ 0). omega arith) in
-    let b : eqb (h / 128 % 4) 1 ≡ false = ne_eqb (h / 128 % 4) 1 (λ (z : h / 128 % 4 ≡ 1). omega arith) in
-    rw (a, b)
+pub settle_holds : (n : Node) (node : ℕ) (g : Graph) → holds_step n.action ≡ true
+    → settle n.mode node n.action g ≡ unless (eqb (get_node g node).mode n.mode) 4 (accept (record { nodes = set g.nodes node n; edges = g.edges }, node))
+unfolding settle holds_step
+settle_holds n node g h = go n.action h
+  where
+    go : (a : _) → holds_step a ≡ true → settle n.mode node a g ≡ unless (eqb (get_node g node).mode n.mode) 4 (accept (record { nodes = set g.nodes node (record { mode = n.mode; action = a }); edges = g.edges }, node))
+    go Empty h = absurd cc
+    go Root h = absurd cc
+    go (Holds s) h = refl

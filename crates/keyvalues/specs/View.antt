@@ -1,7 +1,7 @@
 -- What the declared types of values and the words that they are kept in mean, in the values of the rules. Every word decodes to
 -- something.
 use Rattle.std.specs.Prelude
-use Rattle.std.specs.Prelude.{Some, None, Ok, Err, ℕ, zero, suc, ◌+◌, ◌-◌, ◌/◌, ◌%◌, Bool, true, false, List, [], ◌∷◌, ◌++◌, map, ltb, eqb, length, take, drop, replicate, get_or, if◌then◌else◌}
+use Rattle.std.specs.Prelude.{Some, None, Ok, Err, ℕ, zero, suc, ◌+◌, ◌-◌, ◌/◌, ◌%◌, Bool, true, false, List, [], ◌∷◌, ◌++◌, map, ltb, eqb, take, replicate, if◌then◌else◌}
 use Rattle.std.proofs.Math.Option.{Option, none, some}
 use Rattle.rules.specs.Basics.{Result, accept, refuse}
 use Rattle.rules.specs.Values as v
@@ -14,6 +14,7 @@ use Rattle.keyvalues.specs.declared.event.EdgeEvent.{EdgeEvent}
 use Rattle.keyvalues.specs.declared.event.EdgeEvent.TheVariants.{Key, Class, Any, Fallthrough}
 use Rattle.keyvalues.specs.declared.event.EdgeRepeat.{EdgeRepeat}
 use Rattle.keyvalues.specs.declared.event.EdgeRepeat.TheVariants.{Once, Min, Max}
+use Rattle.keyvalues.specs.declared.actions.Actions.{Actions}
 use Rattle.keyvalues.specs.declared.step.Step.{Step}
 use Rattle.keyvalues.specs.declared.path.EdgePathPart.{EdgePathPart}
 use Rattle.keyvalues.specs.declared.path.EdgePath.{EdgePath}
@@ -21,7 +22,9 @@ use Rattle.keyvalues.specs.declared.node.NodeAction.{NodeAction}
 use Rattle.keyvalues.specs.declared.node.NodeAction.TheVariants.{Empty, Root, Step as Holds}
 use Rattle.keyvalues.specs.declared.node.Node.{Node}
 use Rattle.keyvalues.specs.declared.node.NodeWords.{NodeWords}
+use Rattle.keyvalues.specs.declared.class.ClassWord.{ClassWord}
 use Rattle.keyvalues.specs.declared.tables.ModeWords.{ModeWords}
+use Rattle.keyvalues.specs.declared.tables.RuleWord.{RuleWord}
 use Rattle.keyvalues.specs.declared.tables.TableWords.{TableWords}
 
 -- ---- the declared types
@@ -48,11 +51,15 @@ part_of p = record { repeat = repeat_of p.repeat; event = event_of p.event }
 abbrev pub path_of : EdgePath → List v.Part
 path_of p = map part_of (take p.count p.parts)
 
+-- the actions that are there
+abbrev pub actions_by : Actions → List ℕ
+actions_by a = take a.count a.items
+
 -- a step with the actions that are there
 unfoldable pub step_of : Step → v.Step
 step_of s = record {
   flag = s.unmapped;
-  actions = take s.count s.actions;
+  actions = actions_by s.actions;
   next = maybe_of s.next;
   fallthrough = maybe_of s.fallthrough;
   mark = maybe_of s.mark;
@@ -62,6 +69,12 @@ unfoldable pub action_of : NodeAction → g.NodeAction
 action_of Empty = g.Empty
 action_of Root = g.Root
 action_of (Holds s) = g.Holds (step_of s)
+
+-- an action that is a step
+unfoldable pub holds_step : g.NodeAction → Bool
+holds_step g.Empty = false
+holds_step g.Root = false
+holds_step (g.Holds s) = true
 
 unfoldable pub node_of : Node → g.Node
 node_of n = record { mode = n.mode; action = action_of n.action }
@@ -87,6 +100,11 @@ abbrev pub told : {A B : Type 0} → (A → B) → Prelude.Result A Refusal → 
 told f (Ok a) = accept (f a)
 told f (Err r) = refuse (number_of r)
 
+-- what a call that gives nothing answers
+abbrev pub said_of : Prelude.Result (Unit {0}) Refusal → calls.Answer
+said_of (Ok _) = calls.Accepted
+said_of (Err r) = calls.Refused (number_of r)
+
 -- what a call leaves and answers: refused, what was there before
 unfoldable pub settled : {A : Type 0} → A → Result A → A × calls.Answer
 settled old (accept new) = (new, calls.Accepted)
@@ -105,10 +123,13 @@ no_part = record { repeat = v.Once; event = v.Any }
 abbrev pub whole_path : EdgePath → List v.Part
 whole_path p = fit no_part p.count (map part_of p.parts)
 
+abbrev pub whole_actions : Actions → List ℕ
+whole_actions a = fit 0 a.count a.items
+
 abbrev pub whole_step : Step → v.Step
 whole_step s = record {
   flag = s.unmapped;
-  actions = fit 0 s.count s.actions;
+  actions = whole_actions s.actions;
   next = maybe_of s.next;
   fallthrough = maybe_of s.fallthrough;
   mark = maybe_of s.mark;
@@ -175,24 +196,20 @@ node_at h w = record { mode = h % 128; action = action_at (h / 128 % 4) (step_at
 abbrev pub node_in : NodeWords → g.Node
 node_in p = node_at p.head p.acts
 
-unfoldable pub class_at : ℕ → ClassEntry
-class_at w = record { class = w % 65536; low = w / 65536 % 65536; high = w / 65536 / 65536 % 65536 }
+unfoldable pub class_at : ClassWord → ClassEntry
+class_at w = record { class = w.word % 65536; low = w.word / 65536 % 65536; high = w.word / 65536 / 65536 % 65536 }
 
--- ---- tables of words: the first n
-
-abbrev pub classes_of : List ℕ → ℕ → List ClassEntry
-classes_of ws n = map class_at (take n ws)
-
+-- the graph of nodes and edges
 abbrev pub graph_by : List g.Node → List g.Edge → g.Graph
 graph_by ns es = record { nodes = ns; edges = es }
 
 -- ---- the tables' words: the entries that count
 
 abbrev pub class_table : TableWords → List ClassEntry
-class_table t = classes_of t.classes t.class_count
+class_table t = map class_at (take t.class_count t.classes)
 
 abbrev pub mode_table : TableWords → List ModeWords
 mode_table t = take t.mode_count t.modes
 
-abbrev pub rule_table : TableWords → List ℕ
+abbrev pub rule_table : TableWords → List RuleWord
 rule_table t = take t.rule_count t.rules

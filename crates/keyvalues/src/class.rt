@@ -5,20 +5,49 @@ ghost use Rattle.keyvalues.specs.View.{class_at};
 
 use crate::number;
 
-// The word of an entry: the keys from `first` to `last`, both included.
-#[tactic(auto, using(crate::proofs::Words::class_entry))]
-pub fn class_word(class: u16, first: u16, last: u16) -> u64
-    ensures { class_at result ≡ record { class = class; low = first; high = last } }
-{
-    (class as u64) + 65536 * ((first as u64) + 65536 * (last as u64))
+#[repr(C)]
+#[derive(Clone, Copy, Debug, PartialEq, Eq)]
+pub struct ClassWord {
+    pub word: u64,
 }
 
-// Does the entry's range hold the key?
-#[tactic(auto, unfolding(rules::specs::Tables::holds_key, crate::specs::View::class_at))]
-pub fn holds_key(entry: u64, key: u16) -> bool
-    ensures { result ≡ holds_key (class_at entry) key }
-{
-    let first = number::low(entry / 65536);
-    let last = number::low(entry / 65536 / 65536);
-    first <= key && key <= last
+impl ClassWord {
+    // The word of an entry: the keys from `first` to `last`, both included.
+    #[tactic(auto, unfolding(crate::specs::View::class_at))]
+    pub fn of(class: u16, first: u16, last: u16) -> ClassWord
+        ensures { class_at result ≡ record { class = class; low = first; high = last } }
+    {
+        ClassWord {
+            word: (class as u64) + 65536 * ((first as u64) + 65536 * (last as u64)),
+        }
+    }
+
+    #[tactic(auto, unfolding(crate::specs::View::class_at))]
+    pub fn class(self) -> u16
+        ensures { result ≡ (class_at self).class }
+    {
+        number::low(self.word)
+    }
+
+    #[tactic(auto, unfolding(crate::specs::View::class_at))]
+    pub fn first(self) -> u16
+        ensures { result ≡ (class_at self).low }
+    {
+        number::low(self.word / 65536)
+    }
+
+    #[tactic(auto, unfolding(crate::specs::View::class_at))]
+    pub fn last(self) -> u16
+        ensures { result ≡ (class_at self).high }
+    {
+        number::low(self.word / 65536 / 65536)
+    }
+
+    // Does the entry's range hold the key?
+    #[tactic(auto, unfolding(rules::specs::Tables::holds_key))]
+    pub fn holds_key(self, key: u16) -> bool
+        ensures { result ≡ holds_key (class_at self) key }
+    {
+        self.first() <= key && key <= self.last()
+    }
 }

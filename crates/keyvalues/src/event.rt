@@ -1,5 +1,5 @@
-// Events and repeats of a path's parts, and the codes that stand for events in edges.
-ghost use Rattle.std.specs.Prelude.{◌≡◌};
+// Events and repeats of a path's parts, and the codes that stand for events in the words of edges and of kept calls.
+ghost use Rattle.std.specs.Prelude.{◌≡◌, ◌<◌};
 ghost use Rattle.rules.specs.Values as v;
 ghost use Rattle.keyvalues.specs.View.{event_of, event_at, repeat_of};
 
@@ -18,23 +18,19 @@ pub enum EdgeRepeat {
     Max(u16),
 }
 
-// The codes of the two events that hold no number. A key is its own code, and a class has 65,536 added.
-pub const ANY: u32 = 131072;
-
-pub const FALLTHROUGH: u32 = 131073;
-
 impl EdgeEvent {
     pub const CLASSES: u16 = 256;
 
-    #[tactic(auto, using(crate::proofs::Words::event_codes))]
+    // A number for each event: a key is its own code, a class has 65,536 added, and Any and Fallthrough come behind all classes.
+    #[tactic(auto, unfolding(crate::specs::View::event_at))]
     pub fn code(self) -> u32
-        ensures { event_at result ≡ event_of self }
+        ensures { (event_at result ≡ event_of self) × (result < 131074) }
     {
         match self {
             EdgeEvent::Key(k) => k as u32,
             EdgeEvent::Class(k) => (k as u32) + 65536,
-            EdgeEvent::Any => ANY,
-            EdgeEvent::Fallthrough => FALLTHROUGH,
+            EdgeEvent::Any => 131072,
+            EdgeEvent::Fallthrough => 131073,
         }
     }
 
@@ -43,10 +39,8 @@ impl EdgeEvent {
         ensures { result ≡ v.event_valid (event_of self) }
     {
         match self {
-            EdgeEvent::Key(_) => true,
             EdgeEvent::Class(k) => k < EdgeEvent::CLASSES,
-            EdgeEvent::Any => true,
-            EdgeEvent::Fallthrough => true,
+            EdgeEvent::Key(_) | EdgeEvent::Any | EdgeEvent::Fallthrough => true,
         }
     }
 }
@@ -60,8 +54,7 @@ impl EdgeRepeat {
     {
         match self {
             EdgeRepeat::Once => true,
-            EdgeRepeat::Min(n) => n <= EdgeRepeat::MOST,
-            EdgeRepeat::Max(n) => n <= EdgeRepeat::MOST,
+            EdgeRepeat::Min(n) | EdgeRepeat::Max(n) => n <= EdgeRepeat::MOST,
         }
     }
 }

@@ -1,10 +1,10 @@
 // Nodes, and their two words: mode, kind and the step's small parts in the first, the step's actions in the second.
-ghost use Rattle.std.specs.Prelude.{◌≡◌, eqb, ◌<◌, ◌/◌, ◌%◌, min};
-ghost use Rattle.rules.specs.Values as v;
+ghost use Rattle.std.specs.Prelude.{◌≡◌, ◌≤◌, ◌<◌, ◌/◌, ◌%◌};
 ghost use Rattle.rules.specs.Graph as g;
 ghost use Rattle.rules.specs.Calls.{holds_action};
-ghost use Rattle.keyvalues.specs.View.{maybe_of, opt_of, step_of, step_at, action_of, action_at, node_of, node_in};
+ghost use Rattle.keyvalues.specs.View.{maybe_of, opt_of, step_of, step_at, holds_step, action_of, action_at, node_of, node_in};
 
+use crate::actions::Actions;
 use crate::number;
 use crate::step::Step;
 
@@ -37,17 +37,16 @@ impl Node {
         ensures { result ≡ holds_action mode action (node_of self.now) }
     {
         match &self.action {
-            NodeAction::Empty => false,
-            NodeAction::Root => false,
+            NodeAction::Empty | NodeAction::Root => false,
             NodeAction::Step(step) => self.mode == mode && step.has(action),
         }
     }
 }
 
 // What may be missing, in a word: 0 for nothing, and else one more than the number.
-#[tactic(auto, using(crate::proofs::Words::opt_just), unfolding(crate::specs::View::opt_of))]
+#[tactic(auto, unfolding(crate::specs::View::opt_of))]
 pub fn opt(m: Option<u16>) -> u64
-    ensures { (opt_of result ≡ maybe_of m) × (result < 131072) }
+    ensures { (opt_of result ≡ maybe_of m) × (result ≤ 65536) }
 {
     match m {
         None => 0,
@@ -55,7 +54,7 @@ pub fn opt(m: Option<u16>) -> u64
     }
 }
 
-#[tactic(auto, using(crate::proofs::Words::opt_low), unfolding(crate::specs::View::opt_of))]
+#[tactic(auto, unfolding(crate::specs::View::opt_of))]
 pub fn unopt(x: u64) -> Option<u16>
     ensures { maybe_of result ≡ opt_of x }
 {
@@ -66,21 +65,23 @@ pub fn unopt(x: u64) -> Option<u16>
     }
 }
 
-pub fn bit(b: bool) -> u64
-    ensures { (eqb result 1 ≡ b) × (result < 2) }
-{
-    if b { 1 } else { 0 }
-}
-
-fn four(n: u16) -> u64
-    ensures { (result ≡ min n 4) × (result < 8) }
-{
-    n.min(Step::ACTIONS) as u64
-}
-
 impl NodeWords {
+    // The words of an empty node of mode 0.
+    pub const EMPTY: NodeWords = NodeWords { head: 0, acts: 0 };
+
+    // The words of the root of a mode. A mode has seven bits there.
+    #[tactic(auto, unfolding(crate::specs::View::node_at, crate::specs::View::action_at))]
+    pub fn root(mode: u16) -> NodeWords
+        ensures { node_in result ≡ record { mode = mode % 128; action = g.Root } }
+    {
+        NodeWords {
+            head: (mode % 128) as u64 + 128,
+            acts: 0,
+        }
+    }
+
     // The words of an empty node. A mode has seven bits there.
-    #[tactic(auto, using(crate::proofs::Words::empty_word))]
+    #[tactic(auto, unfolding(crate::specs::View::node_at, crate::specs::View::action_at))]
     pub fn empty(mode: u16) -> NodeWords
         ensures { node_in result ≡ record { mode = mode % 128; action = g.Empty } }
     {
@@ -92,21 +93,38 @@ impl NodeWords {
     }
 
     // The words of a node that holds the step. A mode has seven bits there.
+    #[tactic(auto, using(std::proofs::lemmas::List::take_min), unfolding(crate::specs::View::step_of, crate::specs::View::node_at, crate::specs::View::action_at, crate::specs::View::step_at))]
     pub fn holding(step: &Step, mode: u16) -> NodeWords
         ensures { node_in result ≡ record { mode = mode % 128; action = g.Holds (step_of step.now) } }
     {
-        let flag = bit(step.unmapped);
-        let count = four(step.count);
+        let flag = u64::from(step.unmapped);
+        let count = step.actions.count.min(Actions::MOST) as u64;
         let next = opt(step.next);
         let fall = opt(step.fallthrough);
         let mark = opt(step.mark);
         let at = mode % 128;
         let parts = flag + 2 * (count + 8 * (next + 131072 * (fall + 131072 * mark)));
-        let acts = number::four_word(step.actions);
+        let acts = step.actions.word();
         NodeWords {
             head: (at as u64) + 128 * (2 + 4 * parts),
             acts: acts,
         }
+    }
+
+    // The mode of the node.
+    #[tactic(auto, unfolding(crate::specs::View::node_at))]
+    pub fn mode(self) -> u16
+        ensures { (result ≡ (node_in self).mode) × (result < 128) }
+    {
+        (self.head % 128) as u16
+    }
+
+    // Does the node hold a step?
+    #[tactic(auto, unfolding(crate::specs::View::node_at, crate::specs::View::action_at, crate::specs::View::holds_step))]
+    pub fn holds_step(self) -> bool
+        ensures { result ≡ holds_step (node_in self).action }
+    {
+        2 <= self.head / 128 % 4
     }
 
     #[tactic(auto, unfolding(crate::specs::View::step_of, crate::specs::View::step_at))]
@@ -116,8 +134,7 @@ impl NodeWords {
         let h = self.head / 128 / 4;
         Step {
             unmapped: h % 2 == 1,
-            actions: number::actions_in(self.acts),
-            count: (h / 2 % 8) as u16,
+            actions: Actions::of_word(self.acts, (h / 2 % 8) as u16),
             next: unopt(h / 2 / 8 % 131072),
             fallthrough: unopt(h / 2 / 8 / 131072 % 131072),
             mark: unopt(h / 2 / 8 / 131072 / 131072 % 131072),
@@ -134,15 +151,19 @@ impl NodeWords {
             _ => NodeAction::Step(self.step()),
         }
     }
+}
+
+impl From<NodeWords> for Node {
+    ghost from_gives = { λ words node. node_of node ≡ node_in words };
 
     // The node that the words stand for.
     #[tactic(auto, unfolding(crate::specs::View::node_of, crate::specs::View::node_at))]
-    pub fn node(self) -> Node
-        ensures { node_of result ≡ node_in self }
+    fn from(words: NodeWords) -> Node
+        ensures { node_of result ≡ node_in words }
     {
         Node {
-            mode: (self.head % 128) as u16,
-            action: self.action(),
+            mode: words.mode(),
+            action: words.action(),
         }
     }
 }

@@ -1,8 +1,8 @@
 // A path: up to 32 parts, each an event with its repeat.
-ghost use Rattle.std.specs.Prelude.{◌≡◌, ◌≤◌, length, take};
+ghost use Rattle.std.specs.Prelude.{◌≡◌, ◌≤◌, true, length, take};
 ghost use Rattle.std.specs.List.{list_all};
 ghost use Rattle.rules.specs.Values as v;
-ghost use Rattle.keyvalues.specs.View.{part_of, whole_path};
+ghost use Rattle.keyvalues.specs.View.{part_of, path_of, whole_path};
 
 use crate::event::{EdgeEvent, EdgeRepeat};
 use crate::list;
@@ -39,20 +39,16 @@ impl EdgePath {
         list::front(&self.parts, self.count)
     }
 
-    pub fn size(&self) -> usize
-        ensures { (result ≡ length (take self.now.count self.now.parts)) × (result ≤ 32) }
-    {
-        self.parts().len()
-    }
-
     fn parts_valid(&self) -> bool
         ensures { result ≡ list_all (λ part. v.part_valid (part_of part)) (take self.now.count self.now.parts) }
     {
         self.parts().iter().all(|part| part.valid())
     }
 
+    #[tactic(auto, using(crate::proofs::Ranges::fits, crate::proofs::Ranges::path_short), unfolding(rules::specs::Values::path_valid))]
     pub fn valid(&self) -> bool
-        ensures { result ≡ v.path_valid (whole_path self.now) }
+        ensures test { result ≡ v.path_valid (whole_path self.now) }
+        ensures plain { result ≡ true → whole_path self.now ≡ path_of self.now }
     {
         self.count <= EdgePath::PARTS && self.parts_valid()
     }

@@ -2,15 +2,8 @@
 ghost use Rattle.std.specs.Prelude.{◌≡◌, ◌≤◌, map, MatchOption, length, get_or, ◌<◌};
 ghost use Rattle.keyvalues.specs.View.{class_at, class_table, mode_table, rule_table};
 
+use crate::class::ClassWord;
 use crate::list;
-
-// How many classes, modes and rules count.
-#[derive(Clone, Copy, Debug, PartialEq, Eq)]
-pub struct Sizes {
-    pub classes: u16,
-    pub modes: u16,
-    pub rules: u16,
-}
 
 // The words of a mode: its enter list, its unmapped list, and a head with their counts and the next mode.
 #[repr(C)]
@@ -21,16 +14,23 @@ pub struct ModeWords {
     pub head: u64,
 }
 
+// The word of a sequence rule: its mode, its sequence, its status and the actions that it is for.
+#[repr(C)]
+#[derive(Clone, Copy, Debug, PartialEq, Eq)]
+pub struct RuleWord {
+    pub word: u64,
+}
+
 // In front of each table stands how many of its entries count.
 #[repr(C)]
 #[derive(Clone, Copy)]
 pub struct TableWords {
     pub class_count: u16,
-    pub classes: [u64; TableWords::CLASSES as usize],
+    pub classes: [ClassWord; TableWords::CLASSES as usize],
     pub mode_count: u16,
     pub modes: [ModeWords; TableWords::MODES as usize],
     pub rule_count: u16,
-    pub rules: [u64; TableWords::RULES as usize],
+    pub rules: [RuleWord; TableWords::RULES as usize],
 }
 
 impl TableWords {
@@ -44,15 +44,15 @@ impl TableWords {
     // No entry at all.
     pub const EMPTY: TableWords = TableWords {
         class_count: 0,
-        classes: [0u64; TableWords::CLASSES as usize],
+        classes: [ClassWord { word: 0 }; TableWords::CLASSES as usize],
         mode_count: 0,
         modes: [ModeWords::EMPTY; TableWords::MODES as usize],
         rule_count: 0,
-        rules: [0u64; TableWords::RULES as usize],
+        rules: [RuleWord { word: 0 }; TableWords::RULES as usize],
     };
 
     // The words of the classes that count.
-    pub fn classes(&self) -> &[u64]
+    pub fn classes(&self) -> &[ClassWord]
         ensures { map class_at result.now ≡ class_table self.now }
     {
         list::front(&self.classes, self.class_count)
@@ -64,7 +64,7 @@ impl TableWords {
         list::front(&self.modes, self.mode_count)
     }
 
-    pub fn rules(&self) -> &[u64]
+    pub fn rules(&self) -> &[RuleWord]
         ensures { result.now ≡ rule_table self.now }
     {
         list::front(&self.rules, self.rule_count)

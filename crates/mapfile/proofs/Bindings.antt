@@ -1,17 +1,15 @@
--- Bindings. A refusal met in reading stays, and a call is what the rules' comes to; so a row of numbers with the call at its end
--- is the rules' reading of a binding, and bindings in a row are read as the rules read them.
+-- Bindings in a row: what is left to read, from the machine so far, comes to what all of them come to. A file is the tables, a
+-- count and so many bindings, read from the fresh machine on.
 use Prim.Native.Nat.{ℕ, suc, ◌+◌, ◌-◌, ◌≤◌, ◌<◌}
 use native.Mathlib.Omega.{arith}
 use mathlib.Core.Path.{◌≡◌, refl, sym, ap, ◌∙◌}
-use mathlib.Core.List.{List, []}
+use mathlib.Core.List.{List}
 use Rattle.rules.specs.Basics.{Result, accept, refuse}
 use Rattle.rules.specs.Values.{Binding}
-use Rattle.rules.specs.Graph.{Graph, fresh_graph}
 use Rattle.rules.specs.Calls.{Machine, graph_kind, fresh, bind}
 use Rattle.rules.specs.Tables.{Tables}
 use Rattle.rules.specs.Numbers.{number}
 use Rattle.rules.specs.MapFile.{Reader, then_read, lifted, read_binding, read_bindings, read_tables, at_end, read_map}
-use Rattle.keptcalls.specs.View.{machine_with}
 use Rattle.mapfile.specs.View.{bind_next}
 
 -- ---- bindings in a row
@@ -41,11 +39,6 @@ none_left n i m bs h = let e : n - i ≡ 0 = omega arith in sym (ap (λ n. read_
 -- the count and the bindings behind the tables
 abbrev counted : Tables → Reader (Machine graph_kind)
 counted t = λ bs. then_read (number bs) (λ n. read_bindings n (fresh graph_kind t))
-
--- the fresh machine's graph is the fresh graph
-pub from_fresh : (n : ℕ) (t : Tables) (g : Graph) (bs : List ℕ) → g ≡ fresh_graph → read_bindings n (machine_with g [] (fresh graph_kind t).state) bs ≡ read_bindings n (fresh graph_kind t) bs
-unfolding fresh
-from_fresh n t g bs e = ap (λ g. read_bindings n (machine_with g [] (fresh graph_kind t).state) bs) e
 
 module _ (s : List ℕ) where
   pub no_tables_read : (n : ℕ) → refuse n ≡ read_tables s → refuse n ≡ read_map s

@@ -1,16 +1,21 @@
--- A run: the map, then the keys, then the playing; and what is answered to C.
-use Prim.Native.Nat.{ℕ, zero, suc, ◌*◌, ◌≤◌, min}
+-- A run: the map, then the keys, then the playing; and what is answered.
+use Prim.Native.Nat.{ℕ, zero, suc, ◌≤◌, min}
 use native.Mathlib.Omega.{arith}
 use native.Mathlib.Nat.{zero-add}
 use mathlib.Core.Path.{◌≡◌, refl, sym, ap, ◌∙◌}
+use mathlib.Core.Bool.{true, false}
 use mathlib.Core.List.{List, [], ◌∷◌, ◌++◌, append_assoc}
-use lib.ListN.{length, take, drop, replicate, take-append-drop}
+use lib.ListN.{length, take, drop, replicate, length-take, take-append-drop}
+use Rattle.std.specs.Prelude as Prelude
+use Rattle.std.specs.Prelude.{Ok, Err, is_err}
 use Rattle.rules.specs.Basics.{Result, accept, refuse, ◌>>=◌}
 use Rattle.rules.specs.Values.{Pair}
 use Rattle.rules.specs.Calls.{Machine, graph_kind}
 use Rattle.rules.specs.MapFile.{read_map}
 use Rattle.rules.specs.Run.{read_keys, play_keys, pair_bytes, run, code_of, output_of, answered}
-use Rattle.mapparts.specs.View.{laid}
+use Rattle.keyvalues.specs.declared.refusal.Refusal.{Refusal}
+use Rattle.mapparts.specs.View.{laid, length_code}
+use Rattle.mapfile.specs.View.{Ran, Ended}
 
 -- ---- the order of the work
 
@@ -28,16 +33,7 @@ module _ (map keys : List ℕ) (budget lent : ℕ) where
     unfolding run
     plays ks k = sym (ap (λ s. s >>= λ s. read_keys keys >>= λ ks. play_keys budget (min lent 65536) ks s []) e) ∙ ap (λ ks. ks >>= λ ks. play_keys budget (min lent 65536) ks m []) k
 
--- ---- what is answered to C
-
-module _ (x : Result (List Pair)) (out : List ℕ) where
-  pub told_length : (ps : List Pair) (n : ℕ) (out₁ : List ℕ) → x ≡ accept ps → n ≡ length (pair_bytes ps) → out₁ ≡ pair_bytes ps ++ drop (length (pair_bytes ps)) out → ◌≡◌ {A = ℕ × List ℕ} (n * 32, out₁) (answered pair_bytes out x)
-  unfolding code_of output_of
-  told_length ps n out₁ e h k = rw (e, h, k) refl
-
-  pub told_refusal : (n : ℕ) (out₁ : List ℕ) → x ≡ refuse n → out₁ ≡ replicate (length out) 0 → ◌≡◌ {A = ℕ × List ℕ} (n, out₁) (answered pair_bytes out x)
-  unfolding code_of output_of
-  told_refusal n out₁ e k = rw (e, k) refl
+-- ---- what is answered
 
 -- what is behind the front of a part that is as long as the room, and behind the part
 behind : (n room : ℕ) (out : List ℕ) → n ≤ room → drop n (take room out) ++ drop room out ≡ drop n out
@@ -47,6 +43,22 @@ behind (suc n) (suc room) [] h = refl
 behind (suc n) (suc room) (x ∷ out) h = behind n room out (omega arith)
 
 -- laid in the front of a part that is as long as the room
-pub front : (bs out : List ℕ) (room : ℕ) → length bs ≤ room → laid 0 bs (take room out) ++ drop room out ≡ bs ++ drop (length bs) out
+front : (bs out : List ℕ) (room : ℕ) → length bs ≤ room → laid 0 bs (take room out) ++ drop room out ≡ bs ++ drop (length bs) out
 unfolding laid
 front bs out room h = rw (zero-add (length bs)) (append_assoc bs (drop (length bs) (take room out)) (drop room out) ∙ ap (λ l. bs ++ l) (behind (length bs) room out h))
+
+module _ (x : Result (List Pair)) (out : List ℕ) where
+  -- a run in the front of the output is told, and the rest stays
+  pub told_run : (room : ℕ) (r : Prelude.Result ℕ Refusal) (out₁ : List ℕ) → Ended x r (take room out) out₁ → is_err r ≡ false → ◌≡◌ {A = ℕ × List ℕ} (length_code r, out₁ ++ drop room out) (answered pair_bytes out x)
+  unfolding code_of output_of
+  told_run room (Err f) out₁ e h = cc
+  told_run room (Ok n) out₁ e h =
+      let ps = e.0.0 in
+      let w = e.1 ps e.0.1 in
+      rw (e.0.1, e.0.2, w.1, front (pair_bytes ps) out room (omega (arith, w.0, length-take room out))) refl
+
+  -- a refused run leaves zeros
+  pub told_zeros : (r : Prelude.Result ℕ Refusal) (out₁ : List ℕ) → Ran x r → is_err r ≡ true → out₁ ≡ replicate (length out) 0 → ◌≡◌ {A = ℕ × List ℕ} (length_code r, out₁) (answered pair_bytes out x)
+  unfolding code_of output_of
+  told_zeros (Ok n) out₁ e h z = cc
+  told_zeros (Err f) out₁ e h z = rw (e, z) refl

@@ -1,6 +1,7 @@
 -- What the answers of the file's functions mean, in the values of the rules.
 use Rattle.std.specs.Prelude as Prelude
-use Rattle.std.specs.Prelude.{Ok, Err, ℕ, ◌≤◌, ◌≡◌, List, [], ◌∷◌, ◌++◌, length}
+use Rattle.std.specs.Prelude.{Ok, Err, ℕ, ◌≤◌, ◌≡◌, List, [], ◌∷◌, ◌++◌, length, All}
+use mathlib.Core.List.{flat_map}
 use Rattle.rules.specs.Basics.{Result, accept, refuse}
 use Rattle.rules.specs.Values.{Pair}
 use Rattle.rules.specs.Numbers.{bytes_of}
@@ -27,18 +28,28 @@ map_of ws m = map_kept ws m (fresh graph_kind (tables_of m.tables)).state
 
 -- ---- writing
 
--- a pair as three numbers
+-- a pair as three numbers, and those as bytes
+abbrev pub numbers_of : Pair → List ℕ
+numbers_of p = p.action ∷ p.context.count ∷ p.context.mark ∷ []
+
 abbrev pub bytes_of_pair : Pair → List ℕ
 bytes_of_pair p = bytes_of p.action ++ bytes_of p.context.count ++ bytes_of p.context.mark
 
 -- pairs as numbers
 abbrev pub pair_numbers : List Pair → List ℕ
-pair_numbers [] = []
-pair_numbers (p ∷ ps) = p.action ∷ p.context.count ∷ p.context.mark ∷ pair_numbers ps
+pair_numbers ps = flat_map numbers_of ps
 
 -- ---- the run
 
--- a run that was not refused told how many bytes it wrote, in front of the output; else its refusal is the rules'
+-- each number of the pair is one of 16 bits
+abbrev pub Small : Pair → Type 0
+Small p = (p.action ≤ 65535) × (p.context.count ≤ 65535) × (p.context.mark ≤ 65535)
+
+-- a run that was not refused told how many bytes its pairs have, all of whose numbers are small; else its refusal is the rules'
+abbrev pub Ran : Result (List Pair) → Prelude.Result ℕ Refusal → Type 0
+Ran x (Ok n) = (ps : List Pair) × (x ≡ accept ps) × (n ≡ length (pair_bytes ps)) × All Small ps
+Ran x (Err e) = x ≡ refuse (number_of e)
+
+-- it ran, and the bytes of its pairs fit and stand in front of the output
 abbrev pub Ended : Result (List Pair) → Prelude.Result ℕ Refusal → List ℕ → List ℕ → Type 0
-Ended x (Ok n) out out₁ = (ps : List Pair) × (x ≡ accept ps) × (n ≡ length (pair_bytes ps)) × (n ≤ length out) × (out₁ ≡ laid 0 (pair_bytes ps) out)
-Ended x (Err e) out out₁ = x ≡ refuse (number_of e)
+Ended x r out out₁ = Ran x r × ((ps : List Pair) → x ≡ accept ps → (length (pair_bytes ps) ≤ length out) × (out₁ ≡ laid 0 (pair_bytes ps) out))

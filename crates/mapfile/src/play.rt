@@ -13,19 +13,21 @@ ghost use Rattle.mapfile.specs.View.{Ended};
 
 use crate::{map, pairs};
 use keptcalls::words::CallWords;
+use keybind::map::Map;
 use keyloop::key;
 use keyloop::key::IndexedMap;
 use keypairs::live::Live;
-use keyparts::index::Index;
+use keyparts::index::{Index, IndexedGraph};
 use keyvalues::refusal::Refusal;
+use keyvalues::tables::TableWords;
 use mapparts::keys;
 use mapparts::reader::Reader;
 use mapparts::writer::Writer;
 
 // After each key its pairs are written, and the queue is empty. Answers how many bytes were written.
 fn play_keys(map: &IndexedMap, keys: &[u8], out: &mut [u8], budget: u16) -> Result<usize, Refusal>
-    requires { navigator_of map.now ≡ graph_navigator (graph_of map.now.graph.now) }
-    ensures { (cs : List Binding) (ks : List ℕ) → read_keys keys.now ≡ accept ks → Ended (play_keys budget (length out.old) ks (machine_with (graph_of map.now.graph.now) cs (fresh graph_kind (tables_of map.now.tables.now)).state) []) result out.old out.new }
+    requires { navigator_of map.now ≡ graph_navigator (graph_of map.now.indexed.graph.now) }
+    ensures { (cs : List Binding) (ks : List ℕ) → read_keys keys.now ≡ accept ks → Ended (play_keys budget (length out.old) ks (machine_with (graph_of map.now.indexed.graph.now) cs (fresh graph_kind (tables_of map.now.tables.now)).state) []) result out.old out.new }
 {
     let mut live = Live::fresh();
     let mut writer = Writer { bytes: out, at: 0 };
@@ -35,7 +37,7 @@ fn play_keys(map: &IndexedMap, keys: &[u8], out: &mut [u8], budget: u16) -> Resu
         let (_rounds, answer) = key::input_key_or_scratch(map, &mut live, key, budget);
         answer?;
         pairs::put_pairs(live.waiting(), &mut writer)?;
-        live.state.queued = 0;
+        live.clear_queue();
     }
     Ok(writer.at)
 }
@@ -46,13 +48,13 @@ pub(crate) fn play(map: &[u8], keys: &[u8], out: &mut [u8], budget: u16) -> Resu
     ensures { (lent : ℕ) → length out.old ≡ min lent 65536 → Ended (run map.now keys.now budget lent) result out.old out.new }
 {
     let mut kept = [CallWords::EMPTY; CallWords::KEPT as usize];
-    let read = map::read_map(map, &mut kept)?;
+    let mut read = Map::fresh(TableWords::EMPTY);
+    map::read_map_or_scratch(map, &mut kept, &mut read)?;
     keys::check_keys(keys)?;
-    let index = Index::new(&read.graph);
-    let indexed = IndexedMap {
+    let indexed = IndexedGraph {
         graph: &read.graph,
-        index: &index,
-        tables: &read.tables,
+        index: &Index::new(&read.graph),
     };
-    play_keys(&indexed, keys, out, budget)
+    let tables = &read.tables;
+    play_keys(&IndexedMap { indexed, tables }, keys, out, budget)
 }

@@ -88,7 +88,7 @@ module _ (bs rest : List ℕ) (v : ℕ) (e : accept (v, rest) ≡ number bs) whe
   -- what is told of the keys that are left is so of all
   pub checked_more : (b : Prelude.Result (Unit {0}) Refusal) → Checked b (read_keys rest) → Checked b (read_keys bs)
   checked_more (Ok x) h = (v ∷ h.0, key_more ∙ ap (keyed v) h.1)
-  checked_more (Err r) h = key_more ∙ ap (keyed v) h
+  checked_more (Err r) h = (h.0, key_more ∙ ap (keyed v) h.1)
 
   -- the first of the keys, and the others
   pub key_first : (ks : List ℕ) → read_keys bs ≡ accept ks → (others : List ℕ) × (read_keys rest ≡ accept others) × (v ∷ others ≡ ks)

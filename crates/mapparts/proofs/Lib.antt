@@ -1,5 +1,5 @@
--- Laws that belong to no one function: how the rules' number goes by bytes, reading as many elements as a count says, what lists
--- in arrays mean, and the keys of a run.
+-- Laws that belong to no one function: how the rules' number goes by bytes, reading as many elements as a count says, numbers
+-- written one behind another, what lists in arrays mean, that what is read of the tables is in range, and the keys of a run.
 pub mod NumberBy
 pub mod Reading
 pub mod Writing

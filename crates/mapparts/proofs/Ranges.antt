@@ -1,4 +1,4 @@
--- What is read of the tables is in range.
+-- What is read of the tables is in range, since each number is tested when it is read.
 use Prim.Native.Nat.{ℕ, ◌≤◌, ◌<◌}
 use mathlib.Core.Path.{◌≡◌}
 use mathlib.Core.Bool.{true}

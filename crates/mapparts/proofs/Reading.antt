@@ -5,8 +5,13 @@ use native.Mathlib.Nat.{sub-zero}
 use mathlib.Core.Path.{◌≡◌, refl, sym, ap, ◌∙◌}
 use mathlib.Core.List.{List, [], ◌∷◌, ◌++◌, append_assoc, append-nil}
 use lib.ListN.{length}
+use Rattle.std.specs.Prelude as Prelude
+use Rattle.std.specs.Prelude.{Ok, Err}
 use Rattle.rules.specs.Basics.{Result, accept, refuse, ◌>>=◌}
+use Rattle.rules.specs.Values.{Binding}
 use Rattle.rules.specs.MapFile.{Reader, then_read, give, times, at_end}
+use Rattle.keyvalues.specs.View.{number_of, told}
+use Rattle.keyvalues.specs.declared.refusal.Refusal.{Refusal}
 
 -- ---- the end
 
@@ -20,23 +25,13 @@ unfolding at_end
 left_over a [] h = absurd (h refl)
 left_over a (b ∷ bs) h = refl
 
--- what stands before the end is what was read
-module _ {A : Type 0} (a : A) (bs : List ℕ) where
-  pub end_of : accept (tt {0}) ≡ at_end (accept (tt {0}, bs)) → accept a ≡ at_end (accept (a, bs))
-  unfolding at_end
-  end_of e = go bs e
-    where
-      go : (bs : List ℕ) → accept (tt {0}) ≡ at_end (accept (tt {0}, bs)) → accept a ≡ at_end (accept (a, bs))
-      go [] e = refl
-      go (b ∷ bs) e = let z : ◌≡◌ {A = ℕ} 0 1 = cc in absurd (omega arith)
-
-  pub end_left : (n : ℕ) → refuse n ≡ at_end (accept (tt {0}, bs)) → refuse n ≡ at_end (accept (a, bs))
-  unfolding at_end
-  end_left n e = go bs e
-    where
-      go : (bs : List ℕ) → refuse n ≡ at_end (accept (tt {0}, bs)) → refuse n ≡ at_end (accept (a, bs))
-      go [] e = let z : ◌≡◌ {A = ℕ} 0 1 = cc in absurd (omega arith)
-      go (b ∷ bs) e = let k : n ≡ 9 = cc in ap refuse k
+-- what is said of a binding at the end is so of every value
+pub end_of : {A : Type 0} (a : A) (b : Binding) (bs : List ℕ) (r : Prelude.Result (Unit {0}) Refusal) → told (λ _. b) r ≡ at_end (accept (b, bs)) → told (λ _. a) r ≡ at_end (accept (a, bs))
+unfolding at_end
+end_of a b [] (Ok u) e = refl
+end_of a b (x ∷ bs) (Ok u) e = let z : ◌≡◌ {A = ℕ} 0 1 = cc in absurd (omega arith)
+end_of a b [] (Err r) e = let z : ◌≡◌ {A = ℕ} 0 1 = cc in absurd (omega arith)
+end_of a b (x ∷ bs) (Err r) e = let k : number_of r ≡ 9 = cc in ap refuse k
 
 -- ---- as many as a count says
 

@@ -1,12 +1,16 @@
--- Bytes laid over others, and what is put behind what was put.
+-- Bytes laid over others, and what is put behind what was put: two parts laid one behind the other are both laid at once, so that
+-- numbers put one by one are put at once.
 use Prim.Native.Nat.{ℕ, ◌+◌, ◌/◌, ◌%◌, ◌≤◌, ◌<◌}
 use native.Mathlib.Omega.{arith}
+use native.Mathlib.Numerals.{add-one}
+use native.Mathlib.Nat.{add-zero}
 use mathlib.Core.Path.{◌≡◌, refl, sym, ap, ◌∙◌}
 use mathlib.Core.Logic.{◌⊎◌, inl, inr}
-use mathlib.Core.List.{List, [], ◌∷◌, ◌++◌, append_assoc, append-nil, flat_map}
-use lib.ListN.{length, take, drop, length-append, length-drop}
-use lib.Seq.{take_at, drop_at, drop-drop, length-take-le}
+use mathlib.Core.List.{List, [], ◌∷◌, ◌++◌, append_assoc, append-nil, map, flat_map}
+use lib.ListN.{length, take, drop, get_or, length-append, length-drop, take-append-drop}
+use lib.Seq.{take_at, drop_at, drop-drop, drop-cons, length-take-le}
 use borrow.Author.Tests.{lt-ltb, le-ltb, le-leb, lt-leb}
+use Rattle.std.proofs.lemmas.List.{drop_all}
 use Rattle.rules.specs.Basics.{Result, accept, refuse, ◌>>=◌}
 use Rattle.rules.specs.Numbers.{bytes_of}
 use Rattle.rules.specs.Writing.{in_bytes}
@@ -71,9 +75,32 @@ module _ (bs : List ℕ) (at : ℕ) (out : List ℕ) where
   unfolding placed
   too_long h = sym (rw (lt-leb (at + length bs) (length out) h))
 
+  -- so it is told whether they fit, and what is there then
+  pub fitted : (p : Page) → accept p ≡ placed bs (at, out) → (at + length bs ≤ length out) × (◌≡◌ {A = Page} p (at + length bs, laid at bs out))
+  fitted p e = go (side (length out) (at + length bs))
+    where
+      go : (length out < at + length bs) ⊎ (at + length bs ≤ length out) → (at + length bs ≤ length out) × (◌≡◌ {A = Page} p (at + length bs, laid at bs out))
+      go (inl h) = let f : ◌≡◌ {A = Result Page} (accept p) (refuse 10) = e ∙ sym (too_long h) in cc
+      go (inr h) = let f : ◌≡◌ {A = Result Page} (accept p) (accept (at + length bs, laid at bs out)) = e ∙ sym (fits h) in (h, cc)
+
+  pub full : (k : ℕ) → refuse k ≡ placed bs (at, out) → (k ≡ 10) × (length out < at + length bs)
+  full k e = go (side (length out) (at + length bs))
+    where
+      go : (length out < at + length bs) ⊎ (at + length bs ≤ length out) → (k ≡ 10) × (length out < at + length bs)
+      go (inl h) = let f : ◌≡◌ {A = Result Page} (refuse k) (refuse 10) = e ∙ sym (too_long h) in (cc, h)
+      go (inr h) = let f : ◌≡◌ {A = Result Page} (refuse k) (accept (at + length bs, laid at bs out)) = e ∙ sym (fits h) in cc
+
+laid_none : (at : ℕ) (out : List ℕ) → laid at [] out ≡ out
+unfolding laid
+laid_none at out = rw (add-zero at, append-nil (take at out)) (take-append-drop at out)
+
+-- no bytes fit where there is a place
+pub place_none : (at : ℕ) (out : List ℕ) → at ≤ length out → placed [] (at, out) ≡ accept (at, out)
+place_none at out h = sym (fits [] at out (omega arith)) ∙ ap (λ (p : Page). accept p) (ap (λ (n : ℕ). (n, laid at [] out)) (add-zero at) ∙ ap (λ (o : List ℕ). (at, o)) (laid_none at out))
+
 -- ---- one behind another
 
-placed_append : (xs ys : List ℕ) (at : ℕ) (out : List ℕ) → (placed xs (at, out) >>= placed ys) ≡ placed (xs ++ ys) (at, out)
+pub placed_append : (xs ys : List ℕ) (at : ℕ) (out : List ℕ) → (placed xs (at, out) >>= placed ys) ≡ placed (xs ++ ys) (at, out)
 placed_append xs ys at out = go (side (length out) (at + length xs)) (side (length out) (at + length (xs ++ ys)))
   where
     long : length (xs ++ ys) ≡ length xs + length ys
@@ -86,34 +113,89 @@ placed_append xs ys at out = go (side (length out) (at + length xs)) (side (leng
         let e : at + length xs + length ys ≡ at + length (xs ++ ys) = omega (arith, long) in
         ap (λ r. r >>= placed ys) (sym (fits xs at out h)) ∙ sym (fits ys (at + length xs) (laid at xs out) (omega (arith, long, length-laid at xs out h))) ∙ rw (e, laid_laid at xs ys out (omega (arith, long))) (fits (xs ++ ys) at out k)
 
-module _ {A B : Type 0} where
-  same : (r : Result A) {f g : A → Result B} → ((a : A) → f a ≡ g a) → (r >>= f) ≡ (r >>= g)
-  same (accept a) e = e a
-  same (refuse n) e = refl
-
-module _ {A B D : Type 0} where
-  assoc : (r : Result A) (f : A → Result B) (g : B → Result D) → (r >>= f >>= g) ≡ (r >>= λ a. f a >>= g)
-  assoc (accept a) f g = refl
-  assoc (refuse n) f g = refl
-
--- numbers behind numbers
-pub put_append : (xs ys : List ℕ) (p : Page) → (put_all xs p >>= put_all ys) ≡ put_all (xs ++ ys) p
-put_append [] ys p = refl
-put_append (x ∷ xs) ys p = assoc (placed (bytes_of x) p) (put_all xs) (put_all ys) ∙ same (placed (bytes_of x) p) (λ q. put_append xs ys q)
-
+-- what is placed behind a page that was reached, and behind one that was not
 module _ (xs ys : List ℕ) (p : Page) where
-  pub put_more : (q : Page) → accept q ≡ put_all xs p → put_all ys q ≡ put_all (xs ++ ys) p
-  put_more q e = ap (λ r. r >>= put_all ys) e ∙ put_append xs ys p
+  pub place_more : (q : Page) → accept q ≡ placed xs p → placed ys q ≡ placed (xs ++ ys) p
+  place_more q e = ap (λ r. r >>= placed ys) e ∙ placed_append xs ys p.0 p.1
 
-  pub put_stop : (n : ℕ) → refuse n ≡ put_all xs p → refuse n ≡ put_all (xs ++ ys) p
-  put_stop n e = ap (λ r. r >>= put_all ys) e ∙ put_append xs ys p
+  pub place_stop : (n : ℕ) → refuse n ≡ placed xs p → refuse n ≡ placed (xs ++ ys) p
+  place_stop n e = ap (λ r. r >>= placed ys) e ∙ placed_append xs ys p.0 p.1
 
--- all of them at once
-pub put_placed : (n : ℕ) (ns : List ℕ) (at : ℕ) (out : List ℕ) → put_all (n ∷ ns) (at, out) ≡ placed (in_bytes (n ∷ ns)) (at, out)
-unfolding in_bytes flat_map
-put_placed n [] at out = go (placed (bytes_of n) (at, out)) ∙ ap (λ bs. placed bs (at, out)) (sym (append-nil (bytes_of n)))
+-- numbers behind a page that was reached
+unfoldable pub then_put : Result Page → List ℕ → Result Page
+then_put r ns = r >>= put_all ns
+
+pub then_on : (q : Page) (ns : List ℕ) → then_put (accept q) ns ≡ put_all ns q
+unfolding then_put
+then_on q ns = refl
+
+pub then_stop : (k : ℕ) (ns : List ℕ) → then_put (refuse k) ns ≡ refuse k
+unfolding then_put
+then_stop k ns = refl
+
+pub put_none : (p : Page) → put_all [] p ≡ accept p
+unfolding put_all
+put_none p = refl
+
+pub put_one : (n : ℕ) (p : Page) → put_all (n ∷ []) p ≡ placed (bytes_of n) p
+unfolding put_all
+put_one n p = go (placed (bytes_of n) p)
   where
     go : (r : Result Page) → (r >>= λ p. accept p) ≡ r
     go (accept q) = refl
     go (refuse k) = refl
-put_placed n (m ∷ ns) at out = same (placed (bytes_of n) (at, out)) (λ q. put_placed m ns q.0 q.1) ∙ placed_append (bytes_of n) (in_bytes (m ∷ ns)) at out
+
+pub put_first : (n : ℕ) (ns : List ℕ) (p : Page) → put_all (n ∷ ns) p ≡ then_put (put_all (n ∷ []) p) ns
+unfolding put_all then_put
+put_first n ns p = go (placed (bytes_of n) p)
+  where
+    go : (r : Result Page) → (r >>= put_all ns) ≡ (r >>= (λ p. accept p) >>= put_all ns)
+    go (accept q) = refl
+    go (refuse k) = refl
+
+pub put_append : (xs ys : List ℕ) (p : Page) → put_all (xs ++ ys) p ≡ then_put (put_all xs p) ys
+unfolding put_all then_put
+put_append [] ys p = refl
+put_append (x ∷ xs) ys p = go (placed (bytes_of x) p) (λ q. put_append xs ys q)
+  where
+    go : (r : Result Page) → ((q : Page) → put_all (xs ++ ys) q ≡ then_put (put_all xs q) ys) → (r >>= put_all (xs ++ ys)) ≡ (r >>= put_all xs >>= put_all ys)
+    go (accept q) h = h q
+    go (refuse k) h = refl
+
+-- what is put by one call behind another
+pub ruleset writing = (put_none, put_one, put_first, put_append, then_on, then_stop)
+
+-- the numbers of the items from a place on: those of the next, and of the ones behind it
+module _ {A B : Type 0} (w : B → List ℕ) (v : A → B) (xs : List A) where
+  abbrev from : ℕ → List ℕ
+  from i = flat_map w (map v (drop i xs))
+
+  pub each_none : (i : ℕ) (p : Page) → length xs ≤ i → put_all (from i) p ≡ accept p
+  unfolding flat_map put_all
+  each_none i p h = rw (drop_all i xs h) refl
+
+  module _ (i : ℕ) (d x : A) (h : i < length xs) (e : get_or xs i d ≡ x) where
+    next : from i ≡ w (v x) ++ from (i + 1)
+    unfolding flat_map
+    next = rw (drop-cons xs i d h, e, add-one i) refl
+
+    behind_next : (p : Page) → put_all (from i) p ≡ then_put (put_all (w (v x)) p) (from (i + 1))
+    behind_next p = ap (λ ns. put_all ns p) next ∙ put_append (w (v x)) (from (i + 1)) p
+
+    pub each_more : (p q : Page) → accept q ≡ put_all (w (v x)) p → put_all (from (i + 1)) q ≡ put_all (from i) p
+    unfolding then_put
+    each_more p q k = ap (λ r. then_put r (from (i + 1))) k ∙ sym (behind_next p)
+
+    pub each_stop : (n : ℕ) (p : Page) → refuse n ≡ put_all (w (v x)) p → refuse n ≡ put_all (from i) p
+    unfolding then_put
+    each_stop n p k = ap (λ r. then_put r (from (i + 1))) k ∙ sym (behind_next p)
+
+-- all of them at once
+pub put_placed : (n : ℕ) (ns : List ℕ) (at : ℕ) (out : List ℕ) → put_all (n ∷ ns) (at, out) ≡ placed (in_bytes (n ∷ ns)) (at, out)
+unfolding in_bytes flat_map put_all
+put_placed n [] at out = put_one n (at, out) ∙ ap (λ bs. placed bs (at, out)) (sym (append-nil (bytes_of n)))
+put_placed n (m ∷ ns) at out = go (placed (bytes_of n) (at, out)) (λ q. put_placed m ns q.0 q.1) ∙ placed_append (bytes_of n) (in_bytes (m ∷ ns)) at out
+  where
+    go : (r : Result Page) → ((q : Page) → put_all (m ∷ ns) q ≡ placed (in_bytes (m ∷ ns)) q) → (r >>= put_all (m ∷ ns)) ≡ (r >>= placed (in_bytes (m ∷ ns)))
+    go (accept q) h = h q
+    go (refuse k) h = refl

@@ -1,2 +1,2 @@
--- What the answers of the file's readers mean in the values of the rules.
+-- What the answers of the file's readers and of its writer mean, in the values of the rules.
 pub mod View

@@ -37,7 +37,7 @@ pub fn read_binding(reader: &mut Reader) -> Result<Binding, Refusal>
 }
 
 // A binding that stands alone: nothing may be left behind it.
-#[tactic(auto, using(crate::proofs::Reading::end_of, crate::proofs::Reading::end_left), unfolding(rules::specs::MapFile::at_end))]
+#[tactic(auto, unfolding(rules::specs::MapFile::at_end))]
 pub fn read_alone(bytes: &[u8]) -> Result<Binding, Refusal>
     ensures { told binding_in result ≡ at_end (read_binding bytes.now) }
 {

@@ -5,13 +5,12 @@ ghost use Rattle.rules.specs.Values.{is_mode};
 ghost use Rattle.rules.specs.Numbers.{number};
 ghost use Rattle.rules.specs.MapFile.{list_of, read_actions, read_optional_mode};
 ghost use Rattle.keyvalues.specs.View.{maybe_of};
-ghost use Rattle.keytables.specs.View.{whole_actions};
+ghost use Rattle.keyvalues.specs.View.{whole_actions};
 ghost use Rattle.mapparts.specs.View.{Reads, read_mark};
 
 use crate::reader::Reader;
-use keytables::tables::Actions;
+use keyvalues::actions::Actions;
 use keyvalues::refusal::Refusal;
-use keyvalues::step::Step;
 use keyvalues::tables::TableWords;
 
 // What a file has lists of. Of an element that is read a value is kept, which may be a word.
@@ -45,7 +44,7 @@ impl Listed for u16 {
 }
 
 // A count of at most `most`, then so many. The first items are the list.
-pub fn read_list<E: Listed>(
+pub(crate) fn read_list<E: Listed>(
     reader: &mut Reader,
     most: u16,
     items: &mut [E::Kept],
@@ -63,18 +62,18 @@ pub fn read_list<E: Listed>(
 
 // A list of actions.
 #[tactic(auto, using(crate::proofs::Parts::fit_numbers))]
-pub fn read_actions(reader: &mut Reader) -> Result<Actions, Refusal>
+pub(crate) fn read_actions(reader: &mut Reader) -> Result<Actions, Refusal>
     ensures bound { IfOk result (λ a. a.count ≤ 4) }
     ensures reads { Reads whole_actions read_actions reader.old.rest.now result reader.new.rest.now }
 {
-    let mut items = [0u16; Step::ACTIONS as usize];
-    let count = read_list::<u16>(reader, Step::ACTIONS, &mut items)?;
+    let mut items = [0u16; Actions::MOST as usize];
+    let count = read_list::<u16>(reader, Actions::MOST, &mut items)?;
     Ok(Actions { items, count })
 }
 
 // 0, or mode + 1.
 #[tactic(auto, unfolding(rules::specs::MapFile::optional, rules::specs::Basics::present))]
-pub fn read_optional_mode(reader: &mut Reader) -> Result<Option<u16>, Refusal>
+pub(crate) fn read_optional_mode(reader: &mut Reader) -> Result<Option<u16>, Refusal>
     ensures bound { IfOk result (λ m. present is_mode (maybe_of m) ≡ true) }
     ensures reads { Reads maybe_of read_optional_mode reader.old.rest.now result reader.new.rest.now }
 {
@@ -86,7 +85,7 @@ pub fn read_optional_mode(reader: &mut Reader) -> Result<Option<u16>, Refusal>
 
 // 0, or the mark itself.
 #[tactic(auto, unfolding(rules::specs::MapFile::optional_mark))]
-pub fn read_mark(reader: &mut Reader) -> Result<Option<u16>, Refusal>
+pub(crate) fn read_mark(reader: &mut Reader) -> Result<Option<u16>, Refusal>
     ensures { Reads maybe_of read_mark reader.old.rest.now result reader.new.rest.now }
 {
     match reader.number()? {

@@ -1,5 +1,4 @@
 // Paths: parts, each a repeat and an event.
-ghost use Rattle.std.specs.Prelude.{ℕ};
 ghost use Rattle.rules.specs.Values.{Part, most_parts};
 ghost use Rattle.rules.specs.MapFile.{read_part, list_of};
 ghost use Rattle.keyvalues.specs.View.{repeat_of, event_of, part_of, whole_path};

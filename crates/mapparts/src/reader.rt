@@ -1,8 +1,9 @@
 // Reading bytes from the front: numbers, each a number of groups of seven bits, lowest first, 0x80 set on all but the last, in
 // the shortest form. A number's range is tested when it is read.
-ghost use Rattle.std.specs.Prelude.{◌≡◌, [], ◌∷◌, ◌+◌, ◌-◌, ◌≤◌, ◌<◌, leb, ltb, length, IfOk, MatchResult};
+ghost use Rattle.std.specs.Prelude.{ℕ, Bool, true, ◌≡◌, [], ◌∷◌, ◌≤◌, ◌<◌, leb, ltb, IfOk, IfErr, MatchResult};
 ghost use Rattle.rules.specs.Basics.{accept};
 ghost use Rattle.rules.specs.Numbers.{number};
+ghost use Rattle.rules.specs.Values.{Binding};
 ghost use Rattle.rules.specs.MapFile.{such, up_to, at_end};
 ghost use Rattle.keyvalues.specs.View.{told};
 ghost use Rattle.mapparts.specs.View.{Reads};
@@ -29,7 +30,8 @@ impl<'a> Reader<'a> {
     }
 
     pub fn number(&mut self) -> Result<u16, Refusal>
-        ensures { Reads (λ n. n) number self.old.rest.now result self.new.rest.now }
+        ensures malformed { IfErr result (λ e. e ≡ Refusal.Malformed) }
+        ensures reads { Reads (λ n. n) number self.old.rest.now result self.new.rest.now }
     {
         let b = self.byte()?;
         if b < 128 {
@@ -53,16 +55,25 @@ impl<'a> Reader<'a> {
         Ok((b - 128) + 128 * ((c - 128) + 128 * d))
     }
 
+    // A number that passes the test.
+    fn such<F: FnOnce(u16) -> bool>(&mut self, passes: F) -> Result<u16, Refusal>
+        requires { F.IsAlwaysCallable passes }
+        ensures passed { IfOk result (λ n. F.post passes n true) }
+        ensures reads { (p : ℕ → Bool) → ((n : ℕ) (r : Bool) → F.post passes n r → r ≡ p n) → Reads (λ n. n) (such p) self.old.rest.now result self.new.rest.now }
+    {
+        let n = self.number()?;
+        if passes(n) {
+            return Ok(n);
+        }
+        Err(Refusal::OutOfRange)
+    }
+
     // A number of at most `most`.
     pub fn up_to(&mut self, most: u16) -> Result<u16, Refusal>
         ensures bound { IfOk result (λ n. n ≤ most) }
         ensures reads { Reads (λ n. n) (up_to most) self.old.rest.now result self.new.rest.now }
     {
-        let n = self.number()?;
-        if n <= most {
-            return Ok(n);
-        }
-        Err(Refusal::OutOfRange)
+        self.such(|n| n <= most)
     }
 
     // A number below `bound`.
@@ -70,11 +81,7 @@ impl<'a> Reader<'a> {
         ensures bound { IfOk result (λ n. n < bound) }
         ensures reads { Reads (λ n. n) (such (λ n. ltb n bound)) self.old.rest.now result self.new.rest.now }
     {
-        let n = self.number()?;
-        if n < bound {
-            return Ok(n);
-        }
-        Err(Refusal::OutOfRange)
+        self.such(|n| n < bound)
     }
 
     // A number of at least `least`.
@@ -82,17 +89,13 @@ impl<'a> Reader<'a> {
         ensures bound { IfOk result (λ n. least ≤ n) }
         ensures reads { Reads (λ n. n) (such (leb least)) self.old.rest.now result self.new.rest.now }
     {
-        let n = self.number()?;
-        if least <= n {
-            return Ok(n);
-        }
-        Err(Refusal::OutOfRange)
+        self.such(|n| least <= n)
     }
 
     // Nothing may be left: bytes that are, are refused.
     #[tactic(auto, using(crate::proofs::Reading::ended, crate::proofs::Reading::left_over))]
     pub fn end(&self) -> Result<(), Refusal>
-        ensures { told (λ x. x) result ≡ at_end (accept (tt, self.now.rest.now)) }
+        ensures { (b : Binding) → told (λ _. b) result ≡ at_end (accept (b, self.now.rest.now)) }
     {
         if self.rest.is_empty() {
             return Ok(());

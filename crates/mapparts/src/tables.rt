@@ -11,12 +11,13 @@ use crate::reader::Reader;
 use keytables::entry::Entry;
 use keytables::rule::Rule;
 use keytables::tables::{ClassEntry, ModeEntry};
+use keyvalues::class::ClassWord;
 use keyvalues::event::EdgeEvent;
 use keyvalues::refusal::Refusal;
-use keyvalues::tables::{ModeWords, TableWords};
+use keyvalues::tables::{ModeWords, RuleWord, TableWords};
 
 impl Listed for ClassEntry {
-    type Kept = u64;
+    type Kept = ClassWord;
 
     ghost Value = { t.ClassEntry };
 
@@ -25,7 +26,7 @@ impl Listed for ClassEntry {
     ghost value = { class_at };
 
     #[tactic(auto, using(crate::proofs::Ranges::class_in_range))]
-    fn read_from(reader: &mut Reader) -> Result<u64, Refusal> {
+    fn read_from(reader: &mut Reader) -> Result<ClassWord, Refusal> {
         let class = reader.below(EdgeEvent::CLASSES)?;
         let low = reader.number()?;
         let high = reader.at_least(low)?;
@@ -58,7 +59,7 @@ impl Listed for ModeEntry {
 }
 
 impl Listed for Rule {
-    type Kept = u64;
+    type Kept = RuleWord;
 
     ghost Value = { t.Rule };
 
@@ -67,7 +68,7 @@ impl Listed for Rule {
     ghost value = { rule_of };
 
     #[tactic(auto, using(crate::proofs::Ranges::rule_in_range))]
-    fn read_from(reader: &mut Reader) -> Result<u64, Refusal> {
+    fn read_from(reader: &mut Reader) -> Result<RuleWord, Refusal> {
         let mode = reader.below(TableWords::MODES)?;
         let low = reader.number()?;
         let high = reader.at_least(low)?;

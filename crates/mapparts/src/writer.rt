@@ -1,8 +1,7 @@
 // Numbers written into bytes that are lent, as the reader reads them.
-ghost use Rattle.std.specs.Prelude.{◌≡◌, [], ◌∷◌, ◌≤◌, suc, length, OnErr};
+ghost use Rattle.std.specs.Prelude.{[], ◌∷◌, ◌≤◌, suc};
 ghost use Rattle.rules.specs.Numbers.{bytes_of};
-ghost use Rattle.keyvalues.specs.View.{told};
-ghost use Rattle.mapparts.specs.View.{placed, Puts};
+ghost use Rattle.mapparts.specs.View.{placed, put_all, Writes, Stays};
 
 use keyvalues::refusal::Refusal;
 
@@ -17,9 +16,8 @@ impl<'a> Writer<'a> {
     // All of the bytes, or none where they do not fit.
     #[tactic(auto, using(crate::proofs::Writing::too_long))]
     pub fn put_bytes(&mut self, bytes: &[u8]) -> Result<(), Refusal>
-        ensures same { (self.new.bytes.ghost_name ≡ self.old.bytes.ghost_name) × (length self.new.bytes.now ≡ length self.old.bytes.now) }
-        ensures puts { told (λ _. (self.new.at, self.new.bytes.now)) result ≡ placed bytes.now (self.old.at, self.old.bytes.now) }
-        ensures kept { OnErr result ((self.new.at ≡ self.old.at) × (self.new.bytes.now ≡ self.old.bytes.now)) }
+        ensures writes { Writes (placed bytes.now) self.old result self.new }
+        ensures kept { Stays self.old result self.new }
     {
         let size = bytes.len();
         if self.bytes.len() < size {
@@ -38,9 +36,8 @@ impl<'a> Writer<'a> {
     #[tactic(auto, using(crate::proofs::Writing::bytes_one, crate::proofs::Writing::bytes_two, crate::proofs::Writing::bytes_three))]
     fn put_wide(&mut self, value: u32) -> Result<(), Refusal>
         requires { value ≤ 65536 }
-        ensures same { (self.new.bytes.ghost_name ≡ self.old.bytes.ghost_name) × (length self.new.bytes.now ≡ length self.old.bytes.now) }
-        ensures puts { told (λ _. (self.new.at, self.new.bytes.now)) result ≡ placed (bytes_of value) (self.old.at, self.old.bytes.now) }
-        ensures kept { OnErr result ((self.new.at ≡ self.old.at) × (self.new.bytes.now ≡ self.old.bytes.now)) }
+        ensures writes { Writes (placed (bytes_of value)) self.old result self.new }
+        ensures kept { Stays self.old result self.new }
     {
         if value < 128 {
             self.put_bytes(&[value as u8])?;
@@ -57,20 +54,20 @@ impl<'a> Writer<'a> {
     }
 
     // The number, all of it or nothing.
+    #[tactic(auto, using(crate::proofs::Writing::writing))]
     pub fn put(&mut self, value: u16) -> Result<(), Refusal>
-        ensures same { (self.new.bytes.ghost_name ≡ self.old.bytes.ghost_name) × (length self.new.bytes.now ≡ length self.old.bytes.now) }
-        ensures puts { Puts (value ∷ []) (self.old.at, self.old.bytes.now) result (self.new.at, self.new.bytes.now) }
-        ensures kept { OnErr result ((self.new.at ≡ self.old.at) × (self.new.bytes.now ≡ self.old.bytes.now)) }
+        ensures writes { Writes (put_all (value ∷ [])) self.old result self.new }
+        ensures kept { Stays self.old result self.new }
     {
         self.put_wide(value as u32)?;
         Ok(())
     }
 
     // One more than the number.
+    #[tactic(auto, using(crate::proofs::Writing::writing))]
     pub fn put_after(&mut self, value: u16) -> Result<(), Refusal>
-        ensures same { (self.new.bytes.ghost_name ≡ self.old.bytes.ghost_name) × (length self.new.bytes.now ≡ length self.old.bytes.now) }
-        ensures puts { Puts (suc value ∷ []) (self.old.at, self.old.bytes.now) result (self.new.at, self.new.bytes.now) }
-        ensures kept { OnErr result ((self.new.at ≡ self.old.at) × (self.new.bytes.now ≡ self.old.bytes.now)) }
+        ensures writes { Writes (put_all (suc value ∷ [])) self.old result self.new }
+        ensures kept { Stays self.old result self.new }
     {
         self.put_wide((value as u32) + 1)?;
         Ok(())

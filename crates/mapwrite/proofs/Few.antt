@@ -6,19 +6,21 @@ use native.Mathlib.Nat.{mul-suc}
 use mathlib.Core.Logic.{◌⊎◌, inl, inr}
 use mathlib.Core.Path.{◌≡◌, refl, ap}
 use mathlib.Core.List.{List, [], ◌∷◌, ◌++◌, map, flat_map}
-use lib.ListN.{length, take, length-append, length-take}
+use lib.ListN.{length, take, length-append, length-take, length-map}
 use Rattle.rules.specs.Values.{Event, Key, Class, Any, Fallthrough, Repeat, Once, Min, Max, Part, Step}
 use Rattle.rules.specs.Numbers.{bytes_of}
-use Rattle.rules.specs.MapFile.{optional, optional_mark}
+use Rattle.rules.specs.Tables.{Tables}
+use Rattle.rules.specs.MapFile.{optional_mark}
 use Rattle.rules.specs.Writing.{alone, listed, class_numbers, mode_number, mark_number, mode_numbers, rule_numbers, tables_numbers, repeat_numbers, event_numbers, part_numbers, step_numbers, binding_numbers, map_numbers, in_bytes, write_map}
 use Rattle.rules.proofs.Numbers.{side, written_one}
 use Rattle.keyvalues.specs.View.{four_of, opt_of, call_of, class_at}
+use Rattle.keyvalues.specs.declared.class.ClassWord.{ClassWord}
+use Rattle.keyvalues.specs.declared.tables.RuleWord.{RuleWord}
 use Rattle.keyvalues.specs.declared.tables.TableWords.{TableWords}
 use Rattle.keyvalues.specs.declared.tables.ModeWords.{ModeWords}
 use Rattle.keytables.specs.View.{entry_in, rule_of, tables_of}
-use Rattle.keptcalls.specs.View.{parts_in, step_at, call_by, call_in, kept_in}
+use Rattle.keptcalls.specs.View.{part_at, parts_in, step_at, call_by, call_in, kept_in}
 use Rattle.keptcalls.specs.declared.words.CallWords.{CallWords}
-use Rattle.keptcalls.proofs.Reading.{length-parts}
 use Rattle.mapparts.proofs.Writing.{bytes_two, bytes_three}
 
 -- ---- lists
@@ -57,11 +59,11 @@ mode_few b =
     let n = alone (mode_number (opt_of (b.head / 64))) in
     omega (arith, length-append e (u ++ n), length-append u n, actions_few (b.head % 8) (b.enter), actions_few (b.head / 8 % 8) (b.unmapped))
 
-class_few : (w : ℕ) → length (class_numbers (class_at w)) ≤ 3
+class_few : (w : ClassWord) → length (class_numbers (class_at w)) ≤ 3
 unfolding class_numbers
 class_few w = omega arith
 
-rule_few : (w : ℕ) → length (rule_numbers (rule_of w)) ≤ 5
+rule_few : (w : RuleWord) → length (rule_numbers (rule_of w)) ≤ 5
 unfolding rule_numbers
 rule_few w = omega arith
 
@@ -85,8 +87,8 @@ part_few p = omega (arith, repeat_few p.repeat, event_few p.event, length-append
 step_few : (h w : ℕ) → length (step_numbers (step_at h w)) ≤ 9
 unfolding step_numbers step_at
 step_few h w =
-    let n = mode_number (optional (h / 2 / 8 % 32)) in
-    let f = mode_number (optional (h / 2 / 8 / 32 % 32)) in
+    let n = mode_number (opt_of (h / 2 / 8 % 32)) in
+    let f = mode_number (opt_of (h / 2 / 8 / 32 % 32)) in
     let m = mark_number (optional_mark (h / 2 / 8 / 32 / 32 % 65536)) in
     omega (arith, actions_few (h / 2 % 8) w, length-append (listed alone (take (h / 2 % 8) (four_of w))) (n ∷ f ∷ m ∷ []))
 
@@ -108,23 +110,23 @@ kept_few w =
     let l : length (take (w.head / 4 / 16 % 64) (parts_in w.parts)) ≤ 63 = omega (arith, length-take (w.head / 4 / 16 % 64) (parts_in w.parts)) in
     kept_by w 63 l
 
-abbrev pub Sixteen : List CallWords → Type 0
-Sixteen [] = Unit {0}
-Sixteen (w ∷ ws) = (length w.parts ≤ 16) × Sixteen ws
+abbrev pub Paths : List CallWords → Type 0
+Paths [] = Unit {0}
+Paths (w ∷ ws) = (length w.parts ≤ 32) × Paths ws
 
-sixteen_take : (n : ℕ) (ws : List CallWords) → Sixteen ws → Sixteen (take n ws)
-sixteen_take zero ws h = tt
-sixteen_take (suc n) [] h = tt
-sixteen_take (suc n) (w ∷ ws) h = (h.0, sixteen_take n ws h.1)
+paths_take : (n : ℕ) (ws : List CallWords) → Paths ws → Paths (take n ws)
+paths_take zero ws h = tt
+paths_take (suc n) [] h = tt
+paths_take (suc n) (w ∷ ws) h = (h.0, paths_take n ws h.1)
 
-calls_few : (ws : List CallWords) → Sixteen ws → length (listed binding_numbers (map call_in ws)) ≤ 1 + 140 * length ws
+calls_few : (ws : List CallWords) → Paths ws → length (listed binding_numbers (map call_in ws)) ≤ 1 + 140 * length ws
 unfolding listed flat_map
 calls_few ws h = go ws h
   where
-    go : (ws : List CallWords) → Sixteen ws → suc (length (flat_map binding_numbers (map call_in ws))) ≤ 1 + 140 * length ws
+    go : (ws : List CallWords) → Paths ws → suc (length (flat_map binding_numbers (map call_in ws))) ≤ 1 + 140 * length ws
     go [] h = omega arith
     go (w ∷ ws) h =
-        let l : length (take (w.head / 4 / 16 % 64) (parts_in w.parts)) ≤ 32 = omega (arith, length-take (w.head / 4 / 16 % 64) (parts_in w.parts), length-parts w.parts, h.0) in
+        let l : length (take (w.head / 4 / 16 % 64) (parts_in w.parts)) ≤ 32 = omega (arith, length-take (w.head / 4 / 16 % 64) (parts_in w.parts), length-map w.parts part_at, h.0) in
         omega (arith, go ws h.1, kept_by w 32 l, length-append (binding_numbers (call_in w)) (flat_map binding_numbers (map call_in ws)), mul-suc 140 (length ws))
 
 -- ---- the map
@@ -153,41 +155,42 @@ number_few n = go (side n 128) (side n 16384)
     go (inr h) (inl k) = omega (arith, ap length (bytes_two n h k))
     go (inr h) (inr k) = omega (arith, ap length (bytes_three n k))
 
--- a table of so many entries, and the calls' numbers
-module _ (t : TableWords) (n : ℕ) (ks : List CallWords) (hc : length t.classes ≤ 16) (hm : length t.modes ≤ 16) (hr : length t.rules ≤ 64) (hk : length ks ≤ 1024) where
-  by_calls : (most : ℕ) → length (listed binding_numbers (map call_in (take n ks))) ≤ most → length (write_map (tables_of t) (kept_in n ks)) ≤ 3 * (547 + most)
+-- tables whose arrays are no longer than their places
+pub tables_short : (t : TableWords) → length t.classes ≤ 16 → length t.modes ≤ 16 → length t.rules ≤ 64 → length (tables_numbers (tables_of t)) ≤ 547
+tables_short t hc hm hr =
+    tables_few t 16 16 64 (omega (arith, length-take t.class_count t.classes)) (omega (arith, length-take t.mode_count t.modes)) (omega (arith, length-take t.rule_count t.rules))
+
+-- the tables and the calls' numbers
+module _ (t : Tables) (n : ℕ) (ks : List CallWords) (few : length (tables_numbers t) ≤ 547) (hk : length ks ≤ 1024) where
+  by_calls : (most : ℕ) → length (listed binding_numbers (map call_in (take n ks))) ≤ most → length (write_map t (kept_in n ks)) ≤ 3 * (547 + most)
   unfolding write_map in_bytes map_numbers kept_in
   by_calls most each =
-      let ts = tables_numbers (tables_of t) in
+      let ts = tables_numbers t in
       let cs = listed binding_numbers (map call_in (take n ks)) in
-      let a : length ts ≤ 3 + 3 * 16 + 11 * 16 + 5 * 64
-      = tables_few t 16 16 64 (omega (arith, length-take t.class_count t.classes)) (omega (arith, length-take t.mode_count t.modes)) (omega (arith, length-take t.rule_count t.rules)) in
       omega (arith, flat_few bytes_of 3 number_few (ts ++ cs), length-append ts cs)
 
   -- whatever words the calls have
-  pub map_bounded : length (write_map (tables_of t) (kept_in n ks)) ≤ 812655
+  pub map_bounded : length (write_map t (kept_in n ks)) ≤ 812655
   map_bounded = omega (arith, by_calls 270337 (omega (arith, table_few binding_numbers call_in 264 kept_few n ks, length-take n ks)))
 
-  calls_short : Sixteen ks → length (write_map (tables_of t) (kept_in n ks)) ≤ 431724
-  calls_short h = by_calls 143361 (omega (arith, calls_few (take n ks) (sixteen_take n ks h), length-take n ks))
+  calls_short : Paths ks → length (write_map t (kept_in n ks)) ≤ 431724
+  calls_short h = by_calls 143361 (omega (arith, calls_few (take n ks) (paths_take n ks h), length-take n ks))
 
 -- tables and a call whose arrays are no longer than their places, as the types have it: a value of the code is its own cut
 abbrev pub cut_tables : TableWords → TableWords
 cut_tables t = record { class_count = t.class_count; classes = take 16 t.classes; mode_count = t.mode_count; modes = take 16 t.modes; rule_count = t.rule_count; rules = take 64 t.rules }
 
 abbrev pub cut_call : CallWords → CallWords
-cut_call w = record { parts = take 16 w.parts; head = w.head; actions = w.actions }
+cut_call w = record { parts = take 32 w.parts; head = w.head; actions = w.actions }
 
-sixteen_cut : (ks : List CallWords) → Sixteen (map cut_call ks)
-sixteen_cut [] = tt
-sixteen_cut (w ∷ ws) = (omega (arith, length-take 16 w.parts), sixteen_cut ws)
+paths_cut : (ks : List CallWords) → Paths (map cut_call ks)
+paths_cut [] = tt
+paths_cut (w ∷ ws) = (omega (arith, length-take 32 w.parts), paths_cut ws)
 
 -- no map of any words is longer
 pub map_few : (t : TableWords) (n : ℕ) (ks : List CallWords) → length (write_map (tables_of (cut_tables t)) (kept_in n (take 1024 (map cut_call ks)))) ≤ 431724
 map_few t n ks =
-    calls_short (cut_tables t) n (take 1024 (map cut_call ks))
-    (omega (arith, length-take 16 t.classes))
-    (omega (arith, length-take 16 t.modes))
-    (omega (arith, length-take 64 t.rules))
+    calls_short (tables_of (cut_tables t)) n (take 1024 (map cut_call ks))
+    (tables_short (cut_tables t) (omega (arith, length-take 16 t.classes)) (omega (arith, length-take 16 t.modes)) (omega (arith, length-take 64 t.rules)))
     (omega (arith, length-take 1024 (map cut_call ks)))
-    (sixteen_take 1024 (map cut_call ks) (sixteen_cut ks))
+    (paths_take 1024 (map cut_call ks) (paths_cut ks))

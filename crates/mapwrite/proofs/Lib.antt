@@ -1,5 +1,4 @@
--- Laws that belong to no one function: lists behind a count, a call as it was kept, and how long a map file is.
+-- Laws that belong to no one function: lists behind a count, how long a map file is, and that what is put is what is sent.
 pub mod Lists
-pub mod Kept
 pub mod Sent
 pub mod Few

@@ -1,50 +1,34 @@
--- Lists behind a count: what was put element by element, in order, is the whole list.
-use Prim.Native.Nat.{ℕ, ◌+◌, ◌≤◌, ◌<◌}
-use native.Mathlib.Numerals.{add-one}
-use mathlib.Core.Path.{◌≡◌, refl, sym, ap, ◌∙◌}
-use mathlib.Core.List.{List, [], ◌∷◌, ◌++◌, map, flat_map, append_assoc, append-nil}
-use lib.ListN.{length, take, drop, get_or, length-map, take-append-drop}
-use lib.Seq.{take-suc, take_all}
-use Rattle.rules.specs.Writing.{listed}
+-- Lists behind a count: what is put behind the count comes to the whole list.
+use Prim.Native.Nat.{ℕ}
+use mathlib.Core.Path.{◌≡◌, sym, ap, ◌∙◌}
+use mathlib.Core.List.{List, [], ◌∷◌, ◌++◌, map, flat_map}
+use lib.ListN.{length, length-map}
+use Rattle.std.proofs.lemmas.List.{map-id}
+use Rattle.rules.specs.Basics.{accept, refuse}
+use Rattle.rules.specs.Writing.{alone, listed}
+use Rattle.mapparts.specs.View.{Page, put_all}
+use Rattle.mapparts.proofs.Writing.{then_put, put_first, put_append}
 
-module _ {A : Type 0} (w : A → List ℕ) where
-  pub flat_append : (xs ys : List A) → flat_map w (xs ++ ys) ≡ flat_map w xs ++ flat_map w ys
-  unfolding flat_map
-  flat_append [] ys = refl
-  flat_append (x ∷ xs) ys = ap (λ l. w x ++ l) (flat_append xs ys) ∙ sym (append_assoc (w x) (flat_map w xs) (flat_map w ys))
+-- the numbers of an action are the action alone
+pub action_list : (xs : List ℕ) → listed alone (map (λ n. n) xs) ≡ listed alone xs
+action_list xs = ap (listed alone) (map-id xs)
 
-  flat_one : (x : A) → flat_map w (x ∷ []) ≡ w x
-  unfolding flat_map
-  flat_one x = append-nil (w x)
+-- what is put behind a call's head
+pub behind_head : (kind mode : ℕ) (xs ys : List ℕ) (p : Page) → put_all (kind ∷ mode ∷ (xs ++ ys)) p ≡ then_put (put_all (kind ∷ mode ∷ xs) p) ys
+behind_head kind mode xs ys p = put_append (kind ∷ mode ∷ xs) ys p
 
-  module _ (xs : List A) where
-    -- the count and the first i elements
-    abbrev pub first : ℕ → List ℕ
-    first i = length xs ∷ flat_map w (take i xs)
+module _ {A B : Type 0} (w : B → List ℕ) (v : A → B) (xs : List A) (p : Page) where
+  abbrev each : List ℕ
+  each = flat_map w (map v xs)
 
-    pub first_none : first 0 ≡ length xs ∷ []
-    unfolding flat_map
-    first_none = refl
-
-    pub first_more : (i : ℕ) (x : A) → i < length xs → get_or xs i x ≡ x → first i ++ w x ≡ first (i + 1)
-    first_more i x h e =
-        sym (ap (λ k. length xs ∷ flat_map w (take k xs)) (add-one i) ∙ ap (λ l. length xs ∷ flat_map w l) (take-suc xs i x h ∙ ap (λ y. take i xs ++ (y ∷ [])) e) ∙ ap (λ l. length xs ∷ l) (flat_append (take i xs) (x ∷ []) ∙ ap (λ l. flat_map w (take i xs) ++ l) (flat_one x)))
-
-    pub first_rest : (i : ℕ) → first i ++ flat_map w (drop i xs) ≡ listed w xs
-    unfolding listed
-    first_rest i = ap (λ l. length xs ∷ l) (sym (flat_append (take i xs) (drop i xs)) ∙ ap (flat_map w) (take-append-drop i xs))
-
-    pub first_all : (i : ℕ) → length xs ≤ i → first i ≡ listed w xs
-    unfolding listed
-    first_all i h = ap (λ l. length xs ∷ flat_map w l) (take_all i xs h)
-
-module _ {A B : Type 0} (w : B → List ℕ) (f : A → B) where
-  flat_mapped : (xs : List A) → flat_map w (map f xs) ≡ flat_map (λ x. w (f x)) xs
-  unfolding flat_map
-  flat_mapped [] = refl
-  flat_mapped (x ∷ xs) = ap (λ l. w (f x) ++ l) (flat_mapped xs)
-
-  -- of what the elements mean
-  pub listed_map : (xs : List A) → listed w (map f xs) ≡ listed (λ x. w (f x)) xs
+  counted : put_all (listed w (map v xs)) p ≡ then_put (put_all (length xs ∷ []) p) each
   unfolding listed
-  listed_map xs = rw (length-map xs f, flat_mapped xs)
+  counted = ap (λ n. put_all (n ∷ each) p) (length-map xs v) ∙ put_first (length xs) each p
+
+  pub count_more : (q : Page) → accept q ≡ put_all (length xs ∷ []) p → put_all each q ≡ put_all (listed w (map v xs)) p
+  unfolding then_put
+  count_more q e = ap (λ r. then_put r each) e ∙ sym counted
+
+  pub count_stop : (n : ℕ) → refuse n ≡ put_all (length xs ∷ []) p → refuse n ≡ put_all (listed w (map v xs)) p
+  unfolding then_put
+  count_stop n e = ap (λ r. then_put r each) e ∙ sym counted

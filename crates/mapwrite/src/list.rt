@@ -1,33 +1,41 @@
 // Lists, of actions among others: a count, then each.
-ghost use Rattle.std.specs.Prelude.{◌≡◌, ◌∷◌, [], ℕ, List, length, take};
+ghost use Rattle.std.specs.Prelude.{◌∷◌, [], ℕ, List, map, take};
 ghost use Rattle.rules.specs.Writing.{alone, listed, mode_number, mark_number};
-ghost use Rattle.keyvalues.specs.View.{maybe_of};
-ghost use Rattle.mapparts.specs.View.{Puts};
+ghost use Rattle.keyvalues.specs.View.{maybe_of, actions_by};
+ghost use Rattle.mapparts.specs.View.{put_all, Writes};
 
+use keyvalues::actions::Actions;
 use keyvalues::list;
 use keyvalues::refusal::Refusal;
 use mapparts::writer::Writer;
 
-// What a file has lists of: the numbers of an element, of which a value is kept that may be a word.
+// What a file has lists of. Of an element a value is kept, which may be a word.
 pub trait Written {
     type Kept;
 
-    ghost numbers: { Self.Kept → List ℕ };
+    // What the rules write, and its numbers; and what of it is kept.
+    ghost Value: { Type 0 };
+
+    ghost numbers: { Value → List ℕ };
+
+    ghost value: { Self.Kept → Value };
 
     fn write_to(kept: &Self::Kept, writer: &mut Writer) -> Result<(), Refusal>
-        ensures same { (writer.new.bytes.ghost_name ≡ writer.old.bytes.ghost_name) × (length writer.new.bytes.now ≡ length writer.old.bytes.now) }
-        ensures puts { Puts (numbers kept.now) (writer.old.at, writer.old.bytes.now) result (writer.new.at, writer.new.bytes.now) };
+        ensures { Writes (put_all (numbers (value kept.now))) writer.old result writer.new };
 }
 
 // An action.
 impl Written for u16 {
     type Kept = u16;
 
+    ghost Value = { ℕ };
+
     ghost numbers = { alone };
 
+    ghost value = { λ n. n };
+
     fn write_to(kept: &u16, writer: &mut Writer) -> Result<(), Refusal> {
-        writer.put(*kept)?;
-        Ok(())
+        writer.put(*kept)
     }
 }
 
@@ -37,8 +45,7 @@ pub(crate) fn put_list<E: Written>(
     count: u16,
     writer: &mut Writer,
 ) -> Result<(), Refusal>
-    ensures same { (writer.new.bytes.ghost_name ≡ writer.old.bytes.ghost_name) × (length writer.new.bytes.now ≡ length writer.old.bytes.now) }
-    ensures puts { Puts (listed E.numbers (take count items.now)) (writer.old.at, writer.old.bytes.now) result (writer.new.at, writer.new.bytes.now) }
+    ensures { Writes (put_all (listed E.numbers (map E.value (take count items.now)))) writer.old result writer.new }
 {
     let there = list::front(items, count);
     writer.put(there.len() as u16)?;
@@ -48,25 +55,29 @@ pub(crate) fn put_list<E: Written>(
     Ok(())
 }
 
+// A list of actions.
+#[tactic(auto, using(crate::proofs::Lists::action_list))]
+pub(crate) fn put_actions(actions: &Actions, writer: &mut Writer) -> Result<(), Refusal>
+    ensures { Writes (put_all (listed alone (actions_by actions.now))) writer.old result writer.new }
+{
+    put_list::<u16>(&actions.items, actions.count, writer)
+}
+
 // 0, or mode + 1.
 #[tactic(auto, unfolding(rules::specs::Writing::mode_number))]
 pub(crate) fn put_mode(mode: Option<u16>, writer: &mut Writer) -> Result<(), Refusal>
-    ensures same { (writer.new.bytes.ghost_name ≡ writer.old.bytes.ghost_name) × (length writer.new.bytes.now ≡ length writer.old.bytes.now) }
-    ensures puts { Puts (mode_number (maybe_of mode) ∷ []) (writer.old.at, writer.old.bytes.now) result (writer.new.at, writer.new.bytes.now) }
+    ensures { Writes (put_all (mode_number (maybe_of mode) ∷ [])) writer.old result writer.new }
 {
     match mode {
-        None => writer.put(0)?,
-        Some(mode) => writer.put_after(mode)?,
+        None => writer.put(0),
+        Some(mode) => writer.put_after(mode),
     }
-    Ok(())
 }
 
 // 0, or the mark itself.
 #[tactic(auto, unfolding(rules::specs::Writing::mark_number))]
 pub(crate) fn put_mark(mark: Option<u16>, writer: &mut Writer) -> Result<(), Refusal>
-    ensures same { (writer.new.bytes.ghost_name ≡ writer.old.bytes.ghost_name) × (length writer.new.bytes.now ≡ length writer.old.bytes.now) }
-    ensures puts { Puts (mark_number (maybe_of mark) ∷ []) (writer.old.at, writer.old.bytes.now) result (writer.new.at, writer.new.bytes.now) }
+    ensures { Writes (put_all (mark_number (maybe_of mark) ∷ [])) writer.old result writer.new }
 {
-    writer.put(mark.unwrap_or(0))?;
-    Ok(())
+    writer.put(mark.unwrap_or(0))
 }

@@ -1,8 +1,8 @@
 // Steps.
-ghost use Rattle.std.specs.Prelude.{◌≡◌, ◌≤◌, ◌∷◌, [], length};
-ghost use Rattle.rules.specs.Writing.{alone, listed, flag_number, mode_number, mark_number, step_numbers};
-ghost use Rattle.keyvalues.specs.View.{fit, maybe_of, whole_step};
-ghost use Rattle.mapparts.specs.View.{Puts};
+ghost use Rattle.std.specs.Prelude.{◌∷◌, []};
+ghost use Rattle.rules.specs.Writing.{flag_number, step_numbers};
+ghost use Rattle.keyvalues.specs.View.{step_of};
+ghost use Rattle.mapparts.specs.View.{put_all, Writes};
 
 use crate::list;
 use keyvalues::refusal::Refusal;
@@ -11,51 +11,19 @@ use mapparts::writer::Writer;
 
 #[tactic(auto, unfolding(rules::specs::Writing::flag_number))]
 fn put_flag(flag: bool, writer: &mut Writer) -> Result<(), Refusal>
-    ensures same { (writer.new.bytes.ghost_name ≡ writer.old.bytes.ghost_name) × (length writer.new.bytes.now ≡ length writer.old.bytes.now) }
-    ensures puts { Puts (flag_number flag ∷ []) (writer.old.at, writer.old.bytes.now) result (writer.new.at, writer.new.bytes.now) }
+    ensures { Writes (put_all (flag_number flag ∷ [])) writer.old result writer.new }
 {
-    if flag {
-        writer.put(1)?;
-    } else {
-        writer.put(0)?;
-    }
-    Ok(())
-}
-
-// A count, then so many actions.
-fn put_actions(
-    actions: &[u16; Step::ACTIONS as usize],
-    count: u16,
-    writer: &mut Writer,
-) -> Result<(), Refusal>
-    requires { count ≤ 4 }
-    ensures same { (writer.new.bytes.ghost_name ≡ writer.old.bytes.ghost_name) × (length writer.new.bytes.now ≡ length writer.old.bytes.now) }
-    ensures puts { Puts (listed alone (fit 0 count actions.now)) (writer.old.at, writer.old.bytes.now) result (writer.new.at, writer.new.bytes.now) }
-{
-    list::put_list::<u16>(actions, count, writer)?;
-    Ok(())
-}
-
-fn put_modes(step: &Step, writer: &mut Writer) -> Result<(), Refusal>
-    ensures same { (writer.new.bytes.ghost_name ≡ writer.old.bytes.ghost_name) × (length writer.new.bytes.now ≡ length writer.old.bytes.now) }
-    ensures puts { Puts (mode_number (maybe_of step.now.next) ∷ mode_number (maybe_of step.now.fallthrough) ∷ mark_number (maybe_of step.now.mark) ∷ []) (writer.old.at, writer.old.bytes.now) result (writer.new.at, writer.new.bytes.now) }
-{
-    let next = step.next;
-    let fallthrough = step.fallthrough;
-    list::put_mode(next, writer)?;
-    list::put_mode(fallthrough, writer)?;
-    list::put_mark(step.mark, writer)?;
-    Ok(())
+    writer.put(u16::from(flag))
 }
 
 // Flag, list, next mode, fallthrough, mark.
+#[tactic(auto, using(mapparts::proofs::Writing::writing), unfolding(rules::specs::Writing::step_numbers, keyvalues::specs::View::step_of))]
 pub(crate) fn put_step(step: &Step, writer: &mut Writer) -> Result<(), Refusal>
-    requires { step.now.count ≤ 4 }
-    ensures same { (writer.new.bytes.ghost_name ≡ writer.old.bytes.ghost_name) × (length writer.new.bytes.now ≡ length writer.old.bytes.now) }
-    ensures puts { Puts (step_numbers (whole_step step.now)) (writer.old.at, writer.old.bytes.now) result (writer.new.at, writer.new.bytes.now) }
+    ensures { Writes (put_all (step_numbers (step_of step.now))) writer.old result writer.new }
 {
     put_flag(step.unmapped, writer)?;
-    put_actions(&step.actions, step.count, writer)?;
-    put_modes(step, writer)?;
-    Ok(())
+    list::put_actions(&step.actions, writer)?;
+    list::put_mode(step.next, writer)?;
+    list::put_mode(step.fallthrough, writer)?;
+    list::put_mark(step.mark, writer)
 }

@@ -1,85 +1,82 @@
 // The three tables, each a count and then its entries.
-ghost use Rattle.std.specs.Prelude.{◌≡◌, length};
+ghost use Rattle.std.specs.Prelude.{◌≤◌, length, OnOk};
+ghost use Rattle.rules.specs.Tables as t;
 ghost use Rattle.rules.specs.Writing.{mode_numbers, class_numbers, rule_numbers, tables_numbers};
 ghost use Rattle.keyvalues.specs.View.{class_at};
 ghost use Rattle.keytables.specs.View.{entry_in, rule_of, tables_of};
-ghost use Rattle.mapparts.specs.View.{Puts};
+ghost use Rattle.mapparts.specs.View.{put_all, Writes};
 
 use crate::list;
 use crate::list::Written;
 use keytables::rule::Rule;
 use keytables::tables::{ClassEntry, ModeEntry};
+use keyvalues::class::ClassWord;
 use keyvalues::refusal::Refusal;
-use keyvalues::tables::{ModeWords, TableWords};
-use keyvalues::{node, number};
+use keyvalues::tables::{ModeWords, RuleWord, TableWords};
 use mapparts::writer::Writer;
 
 impl Written for ClassEntry {
-    type Kept = u64;
+    type Kept = ClassWord;
 
-    ghost numbers = { λ w. class_numbers (class_at w) };
+    ghost Value = { t.ClassEntry };
 
-    #[tactic(auto, unfolding(rules::specs::Writing::class_numbers, keyvalues::specs::View::class_at))]
-    fn write_to(kept: &u64, writer: &mut Writer) -> Result<(), Refusal> {
-        writer.put(number::low(*kept))?;
-        writer.put(number::low(*kept / 65536))?;
-        writer.put(number::low(*kept / 65536 / 65536))?;
-        Ok(())
+    ghost numbers = { class_numbers };
+
+    ghost value = { class_at };
+
+    #[tactic(auto, using(mapparts::proofs::Writing::writing), unfolding(rules::specs::Writing::class_numbers))]
+    fn write_to(kept: &ClassWord, writer: &mut Writer) -> Result<(), Refusal> {
+        let class = ClassEntry::from(*kept);
+        writer.put(class.class)?;
+        writer.put(class.low)?;
+        writer.put(class.high)
     }
 }
 
 impl Written for ModeEntry {
     type Kept = ModeWords;
 
-    ghost numbers = { λ w. mode_numbers (entry_in w) };
+    ghost Value = { t.ModeEntry };
 
+    ghost numbers = { mode_numbers };
+
+    ghost value = { entry_in };
+
+    #[tactic(auto, using(mapparts::proofs::Writing::writing), unfolding(rules::specs::Writing::mode_numbers, keytables::specs::View::entry_by))]
     fn write_to(kept: &ModeWords, writer: &mut Writer) -> Result<(), Refusal> {
-        let enter = number::actions_in(kept.enter);
-        let unmapped = number::actions_in(kept.unmapped);
-        let enter_count = number::bits3(kept.head);
-        let unmapped_count = number::bits3(kept.head / 8);
-        let next = node::unopt(kept.head / 64);
-        list::put_list::<u16>(&enter, enter_count, writer)?;
-        list::put_list::<u16>(&unmapped, unmapped_count, writer)?;
-        list::put_mode(next, writer)?;
-        Ok(())
+        let entry = ModeEntry::from(*kept);
+        list::put_actions(&entry.enter, writer)?;
+        list::put_actions(&entry.unmapped, writer)?;
+        list::put_mode(entry.next, writer)
     }
 }
 
 impl Written for Rule {
-    type Kept = u64;
+    type Kept = RuleWord;
 
-    ghost numbers = { λ w. rule_numbers (rule_of w) };
+    ghost Value = { t.Rule };
 
-    #[tactic(auto, unfolding(rules::specs::Writing::rule_numbers))]
-    fn write_to(kept: &u64, writer: &mut Writer) -> Result<(), Refusal> {
-        let rule = Rule::unpack(*kept);
+    ghost numbers = { rule_numbers };
+
+    ghost value = { rule_of };
+
+    #[tactic(auto, using(mapparts::proofs::Writing::writing), unfolding(rules::specs::Writing::rule_numbers))]
+    fn write_to(kept: &RuleWord, writer: &mut Writer) -> Result<(), Refusal> {
+        let rule = Rule::from(*kept);
         writer.put(rule.mode)?;
         writer.put(rule.low)?;
         writer.put(rule.high)?;
         writer.put(rule.sequence)?;
-        writer.put(rule.status)?;
-        Ok(())
+        writer.put(rule.status)
     }
 }
 
-// How many entries there is room for. An array of a struct of another crate shows how long it is where it is lent as an array.
-pub(crate) fn rooms(
-    classes: &[u64; TableWords::CLASSES as usize],
-    modes: &[ModeWords; TableWords::MODES as usize],
-    rules: &[u64; TableWords::RULES as usize],
-) -> usize
-    ensures { (length classes.now ≡ 16) × (length modes.now ≡ 16) × (length rules.now ≡ 64) }
-{
-    classes.len() + modes.len() + rules.len()
-}
-
+#[tactic(auto, using(mapparts::proofs::Writing::writing, crate::proofs::Few::tables_short), unfolding(rules::specs::Writing::tables_numbers))]
 pub(crate) fn put_tables(tables: &TableWords, writer: &mut Writer) -> Result<(), Refusal>
-    ensures same { (writer.new.bytes.ghost_name ≡ writer.old.bytes.ghost_name) × (length writer.new.bytes.now ≡ length writer.old.bytes.now) }
-    ensures puts { Puts (tables_numbers (tables_of tables.now)) (writer.old.at, writer.old.bytes.now) result (writer.new.at, writer.new.bytes.now) }
+    ensures few { OnOk result (length (tables_numbers (tables_of tables.now)) ≤ 547) }
+    ensures writes { Writes (put_all (tables_numbers (tables_of tables.now))) writer.old result writer.new }
 {
     list::put_list::<ClassEntry>(&tables.classes, tables.class_count, writer)?;
     list::put_list::<ModeEntry>(&tables.modes, tables.mode_count, writer)?;
-    list::put_list::<Rule>(&tables.rules, tables.rule_count, writer)?;
-    Ok(())
+    list::put_list::<Rule>(&tables.rules, tables.rule_count, writer)
 }

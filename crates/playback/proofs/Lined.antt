@@ -1,81 +1,56 @@
--- The parts of a line, put one behind another, are the line; where one does not fit, the line does not.
+-- A text that is put by one call behind another is put at once: behind a page that was reached the next part is placed, and behind a
+-- refusal nothing is.
 use Prim.Native.Nat.{ℕ}
-use mathlib.Core.Path.{◌≡◌, ◌∙◌}
+use mathlib.Core.Path.{◌≡◌, refl, sym, ap, ◌∙◌}
 use mathlib.Core.List.{List, [], ◌∷◌, ◌++◌}
-use Rattle.rules.specs.Basics.{accept, refuse}
-use Rattle.rules.specs.Values.{pair}
-use Rattle.rules.specs.Run.{decimal, line_of, refusal}
+use Rattle.rules.specs.Basics.{Result, accept, refuse, ◌>>=◌}
+use Rattle.rules.specs.Values.{Pair, pair}
+use Rattle.rules.specs.Run.{decimal, line_of, lines_of, heading, refusal, text_of}
 use Rattle.mapparts.specs.View.{Page, placed}
-use Rattle.playback.proofs.Putting.{put_more, put_stop}
+use Rattle.mapparts.proofs.Writing.{placed_append}
 
-module _ (v : ℕ) (p : Page) where
-  pub column_stop : (n : ℕ) → refuse n ≡ placed (0x20 ∷ []) p → refuse n ≡ placed (0x20 ∷ decimal 5 v) p
-  column_stop n e = put_stop (0x20 ∷ []) (decimal 5 v) p n e
+unfoldable pub then_placed : Result Page → List ℕ → Result Page
+then_placed r bs = r >>= placed bs
 
-  pub column_more : (q : Page) → accept q ≡ placed (0x20 ∷ []) p → placed (decimal 5 v) q ≡ placed (0x20 ∷ decimal 5 v) p
-  column_more q e = put_more (0x20 ∷ []) (decimal 5 v) p q e
+pub placed_on : (q : Page) (bs : List ℕ) → then_placed (accept q) bs ≡ placed bs q
+unfolding then_placed
+placed_on q bs = refl
 
-module _ (a c m : ℕ) (p : Page) where
-  abbrev first : List ℕ
-  first = decimal 5 a
+pub placed_stop : (n : ℕ) (bs : List ℕ) → then_placed (refuse n) bs ≡ refuse n
+unfolding then_placed
+placed_stop n bs = refl
 
-  abbrev second : List ℕ
-  second = 0x20 ∷ decimal 5 c
+joined : (xs ys : List ℕ) (p : Page) → placed (xs ++ ys) p ≡ then_placed (placed xs p) ys
+unfolding then_placed
+joined xs ys p = sym (placed_append xs ys p.0 p.1)
 
-  abbrev third : List ℕ
-  third = 0x20 ∷ decimal 5 m
+pub column_parts : (v : ℕ) (p : Page) → placed (0x20 ∷ decimal 5 v) p ≡ then_placed (placed (0x20 ∷ []) p) (decimal 5 v)
+column_parts v p = joined (0x20 ∷ []) (decimal 5 v) p
 
-  abbrev last : List ℕ
-  last = 0x0A ∷ []
+pub line_parts : (a c m : ℕ) (p : Page) → placed (line_of (pair a c m)) p ≡ then_placed (then_placed (then_placed (placed (decimal 5 a) p) (0x20 ∷ decimal 5 c)) (0x20 ∷ decimal 5 m)) (0x0A ∷ [])
+unfolding line_of
+line_parts a c m p =
+    let x : List ℕ = decimal 5 a in
+    let y : List ℕ = 0x20 ∷ decimal 5 c in
+    let z : List ℕ = 0x20 ∷ decimal 5 m in
+    joined (x ++ y ++ z) (0x0A ∷ []) p
+    ∙ ap (λ r. then_placed r (0x0A ∷ [])) (joined (x ++ y) z p ∙ ap (λ r. then_placed r z) (joined x y p))
 
-  pub line_stop : (n : ℕ) → refuse n ≡ placed (decimal 5 a) p → refuse n ≡ placed (line_of (pair a c m)) p
-  unfolding line_of
-  line_stop n e = put_stop (first ++ second ++ third) last p n (put_stop (first ++ second) third p n (put_stop first second p n e))
+-- the bytes "refused "
+abbrev word : List ℕ
+word = 0x72 ∷ 0x65 ∷ 0x66 ∷ 0x75 ∷ 0x73 ∷ 0x65 ∷ 0x64 ∷ 0x20 ∷ []
 
-  module _ (q : Page) (e : accept q ≡ placed (decimal 5 a) p) where
-    pub line_stop_second : (n : ℕ) → refuse n ≡ placed (0x20 ∷ decimal 5 c) q → refuse n ≡ placed (line_of (pair a c m)) p
-    unfolding line_of
-    line_stop_second n f = put_stop (first ++ second ++ third) last p n (put_stop (first ++ second) third p n (f ∙ put_more first second p q e))
+pub refusal_parts : (k : ℕ) (p : Page) → placed (refusal k) p ≡ then_placed (then_placed (placed word p) (decimal 5 k)) (0x0A ∷ [])
+unfolding refusal
+refusal_parts k p = joined (word ++ decimal 5 k) (0x0A ∷ []) p ∙ ap (λ r. then_placed r (0x0A ∷ [])) (joined word (decimal 5 k) p)
 
-    module _ (q₂ : Page) (e₂ : accept q₂ ≡ placed (0x20 ∷ decimal 5 c) q) where
-      pub line_stop_third : (n : ℕ) → refuse n ≡ placed (0x20 ∷ decimal 5 m) q₂ → refuse n ≡ placed (line_of (pair a c m)) p
-      unfolding line_of
-      line_stop_third n f = put_stop (first ++ second ++ third) last p n (f ∙ put_more (first ++ second) third p q₂ (e₂ ∙ put_more first second p q e))
+-- the bytes of the heading
+abbrev pub title : List ℕ
+title = 0x61 ∷ 0x63 ∷ 0x74 ∷ 0x69 ∷ 0x6F ∷ 0x6E ∷ 0x20 ∷ 0x63 ∷ 0x6F ∷ 0x75 ∷ 0x6E ∷ 0x74 ∷ 0x20 ∷ 0x6D ∷ 0x61 ∷ 0x72 ∷ 0x6B ∷ 0x0A ∷ []
 
-      module _ (q₃ : Page) (e₃ : accept q₃ ≡ placed (0x20 ∷ decimal 5 m) q₂) where
-        line_all : placed (0x0A ∷ []) q₃ ≡ placed (line_of (pair a c m)) p
-        unfolding line_of
-        line_all = put_more (first ++ second ++ third) last p q₃ (e₃ ∙ put_more (first ++ second) third p q₂ (e₂ ∙ put_more first second p q e))
+pub text_parts : (ps : List Pair) (p : Page) → placed (text_of (accept ps)) p ≡ then_placed (placed title p) (lines_of ps)
+unfolding text_of heading
+text_parts ps p = joined title (lines_of ps) p
 
-        pub line_stop_last : (n : ℕ) → refuse n ≡ placed (0x0A ∷ []) q₃ → refuse n ≡ placed (line_of (pair a c m)) p
-        line_stop_last n f = f ∙ line_all
-
-        pub line_put : (r : Page) → accept r ≡ placed (0x0A ∷ []) q₃ → accept r ≡ placed (line_of (pair a c m)) p
-        line_put r f = f ∙ line_all
-
-module _ (k : ℕ) (p : Page) where
-  abbrev word : List ℕ
-  word = 0x72 ∷ 0x65 ∷ 0x66 ∷ 0x75 ∷ 0x73 ∷ 0x65 ∷ 0x64 ∷ 0x20 ∷ []
-
-  abbrev end : List ℕ
-  end = 0x0A ∷ []
-
-  pub refusal_stop : (n : ℕ) → refuse n ≡ placed word p → refuse n ≡ placed (refusal k) p
-  unfolding refusal
-  refusal_stop n e = put_stop (word ++ decimal 5 k) end p n (put_stop word (decimal 5 k) p n e)
-
-  module _ (q : Page) (e : accept q ≡ placed word p) where
-    pub refusal_stop_number : (n : ℕ) → refuse n ≡ placed (decimal 5 k) q → refuse n ≡ placed (refusal k) p
-    unfolding refusal
-    refusal_stop_number n f = put_stop (word ++ decimal 5 k) end p n (f ∙ put_more word (decimal 5 k) p q e)
-
-    module _ (q₂ : Page) (e₂ : accept q₂ ≡ placed (decimal 5 k) q) where
-      refusal_all : placed end q₂ ≡ placed (refusal k) p
-      unfolding refusal
-      refusal_all = put_more (word ++ decimal 5 k) end p q₂ (e₂ ∙ put_more word (decimal 5 k) p q e)
-
-      pub refusal_stop_end : (n : ℕ) → refuse n ≡ placed end q₂ → refuse n ≡ placed (refusal k) p
-      refusal_stop_end n f = f ∙ refusal_all
-
-      pub refusal_put : (r : Page) → accept r ≡ placed end q₂ → accept r ≡ placed (refusal k) p
-      refusal_put r f = f ∙ refusal_all
+-- what is put by one call behind another
+pub ruleset parts_placed = (placed_on, placed_stop, column_parts, line_parts, refusal_parts, text_parts)

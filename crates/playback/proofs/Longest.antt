@@ -2,18 +2,25 @@
 -- number of one byte is below 128 and has three digits at most, any other five, and one byte more ends it.
 use Prim.Native.Nat.{ℕ, ◌+◌, ◌*◌, ◌/◌, ◌≤◌, ◌<◌}
 use native.Mathlib.Omega.{arith}
-use mathlib.Core.Path.{ap}
+use mathlib.Core.Path.{◌≡◌, refl, sym, ap, ◌∙◌}
 use mathlib.Core.Logic.{◌⊎◌, inl, inr}
-use mathlib.Core.List.{List, [], ◌∷◌}
-use lib.ListN.{length, length-append}
-use Rattle.rules.specs.Basics.{Result}
+use mathlib.Core.List.{List, [], ◌∷◌, ◌++◌}
+use lib.Seq.{take_at}
+use lib.ListN.{length, take, drop, length-append}
+use borrow.Author.Tests.{le-leb}
+use Rattle.std.specs.Prelude as Prelude
+use Rattle.std.specs.Prelude.{Ok, Err, IsOk}
+use Rattle.rules.specs.Basics.{Result, accept}
+use Rattle.keyvalues.specs.declared.refusal.Refusal.{Refusal}
+use Rattle.keyvalues.specs.View.{told}
 use Rattle.rules.specs.Values.{Pair}
 use Rattle.rules.specs.Numbers.{bytes_of}
 use Rattle.rules.specs.Run.{pair_bytes, decimal, line_of, lines_of, heading, refusal, text_of, keyplay}
 use Rattle.rules.proofs.Numbers.{side, written_one}
 use Rattle.rules.proofs.Results.{accepts, refuses}
 use Rattle.mapparts.proofs.Writing.{bytes_two, bytes_three}
-use Rattle.playback.specs.View.{bytes_of_pair}
+use Rattle.mapfile.specs.View.{bytes_of_pair}
+use Rattle.playback.specs.View.{printed}
 use Rattle.playback.proofs.Putting.{decimal_step, decimal_short}
 use Rattle.playback.proofs.Texts.{Fitting, input_fits}
 
@@ -50,3 +57,24 @@ text_short (refuses n t) = omega (arith, length-append (decimal 5 n) (0x0A ∷ [
 pub longest : Longest
 unfolding keyplay
 longest input = text_short (input_fits input)
+
+-- so it always fits
+module _ (input lent out : List ℕ) (r : Prelude.Result ℕ Refusal) (e : ◌≡◌ {A = Result ℕ × List ℕ} (told (λ n. n) r, out) (printed lent (keyplay input))) (wide : length lent ≡ 262162) where
+  fits : ◌≡◌ {A = Result ℕ × List ℕ} (printed lent (keyplay input)) (accept (length (keyplay input)), keyplay input ++ drop (length (keyplay input)) lent)
+  fits = rw (le-leb (length (keyplay input)) (length lent) (omega (arith, longest input, wide))) refl
+
+  fit : told (λ n. n) r ≡ accept (length (keyplay input))
+  fit = ap (λ (a : Result ℕ × List ℕ). a.0) (e ∙ fits)
+
+  pub always_fits : IsOk r
+  always_fits = go r fit
+    where
+      go : (r : Prelude.Result ℕ Refusal) → told (λ n. n) r ≡ accept (length (keyplay input)) → IsOk r
+      go (Ok n) h = refl
+      go (Err f) h = absurd (cc)
+
+  -- and stands in front
+  pub in_front : (n : ℕ) → r ≡ Ok n → take n out ≡ keyplay input
+  in_front n h =
+      let k : n ≡ length (keyplay input) = let f : accept n ≡ accept (length (keyplay input)) = ap (told (λ n. n)) (sym h) ∙ fit in cc in
+      ap (take n) (ap (λ (a : Result ℕ × List ℕ). a.1) e ∙ ap (λ (a : Result ℕ × List ℕ). a.1) fits) ∙ take_at (keyplay input) (drop (length (keyplay input)) lent) n (sym k)

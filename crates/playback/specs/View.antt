@@ -1,33 +1,43 @@
--- What a text comes to in lent bytes, and what the functions that put its parts there tell.
+-- What a text comes to in lent bytes, a pair that is read back, what an input comes to, and what a program does.
 use Rattle.std.specs.Prelude as Prelude
-use Rattle.std.specs.Prelude.{ℕ, ◌+◌, ◌≤◌, ◌<◌, ◌≡◌, List, ◌++◌, leb, length, drop, replicate, if◌then◌else◌}
+use Rattle.std.specs.Prelude.{Ok, Err, ℕ, ◌≡◌, ◌≤◌, List, ◌++◌, leb, length, take, drop, replicate, if◌then◌else◌}
+use Rattle.std.specs.Fn.{Once}
+use denote.Ref.{Bor, MutBor}
+use Rattle.std.specs.List.{All}
+use Rattle.rules.specs.Basics.{Result, accept, refuse, unless}
 use Rattle.rules.specs.Values.{Pair, pair}
-use Rattle.rules.specs.Numbers.{bytes_of}
-use Rattle.keyvalues.specs.View.{told}
+use Rattle.rules.specs.Numbers.{number}
+use Rattle.rules.specs.MapFile.{Reader, ◌>>=◌, give}
+use Rattle.rules.specs.Run.{pair_bytes, play_input}
 use Rattle.keyvalues.specs.declared.refusal.Refusal.{Refusal}
-use Rattle.mapparts.specs.View.{Page, placed}
-use Rattle.playback.specs.declared.lines.Found.{Found}
-use Rattle.playback.specs.declared.lines.Line.{Line}
+use Rattle.keyvalues.specs.View.{number_of}
+use Rattle.mapfile.specs.View.{Small}
 
--- the text stands in front, the rest stays, and its length is told; where it does not fit, 0 and zeros
-abbrev pub printed : List ℕ → List ℕ → ℕ × List ℕ
-printed lent text = if leb (length text) (length lent) then (length text, text ++ drop (length text) lent) else (0, replicate (length lent) 0)
+-- the text stands in front, the rest stays, and its length is told; where it does not fit, it is refused, and all is zeros
+abbrev pub printed : List ℕ → List ℕ → Result ℕ × List ℕ
+printed lent text = if leb (length text) (length lent) then (accept (length text), text ++ drop (length text) lent) else (refuse 10, replicate (length lent) 0)
 
--- the bytes were put behind what was written before, or they do not fit
-abbrev pub Put : List ℕ → Page → Prelude.Result (Unit {0}) Refusal → Page → Type 0
-Put bs before result after = told (λ _. after) result ≡ placed bs before
+-- a pair is three numbers
+abbrev pub read_pair : Reader Pair
+read_pair = do
+  action ← number
+  count ← number
+  mark ← number
+  give (pair action count mark)
 
--- a number that was written at the place is found, with the place after it
-pub record Finds (s : List ℕ) (at : ℕ) (r : Found) : Type 0 where
-  pub onward : at < r.next
-  pub near : r.next ≤ at + 3
-  pub finds : (n : ℕ) (rest : List ℕ) → drop at s ≡ bytes_of n ++ rest → (r.value ≡ n) × (drop r.next s ≡ rest)
+-- what an input comes to: 9 where it is longer than a program takes
+abbrev pub played : List ℕ → Result (List Pair)
+played input = unless (leb (length input) 65536) 9 (play_input input)
 
--- a pair as three numbers
-abbrev pub bytes_of_pair : Pair → List ℕ
-bytes_of_pair p = bytes_of p.action ++ bytes_of p.context.count ++ bytes_of p.context.mark
+-- so many bytes of pairs stand in front of the output, or it was refused
+abbrev pub Played : Result (List Pair) → Prelude.Result ℕ Refusal → List ℕ → Type 0
+Played x (Ok n) out = (ps : List Pair) × (x ≡ accept ps) × All Small ps × (n ≤ length out) × (take n out ≡ pair_bytes ps)
+Played x (Err e) out = x ≡ refuse (number_of e)
 
--- a pair that was written at the place is found, with the place after it
-pub record FindsPair (s : List ℕ) (from : ℕ) (r : Line) : Type 0 where
-  pub onward : from < r.next
-  pub finds : (p : Pair) (rest : List ℕ) → drop from s ≡ bytes_of_pair p ++ rest → (pair r.action r.count r.mark ≡ p) × (drop r.next s ≡ rest)
+-- f was called with these bytes, and some writer, and gave no error
+pub record Answered {F W E : Type 0} (g : Once F (MutBor W × (Bor (List ℕ) × Unit {0})) (Prelude.Result (Unit {0}) E × (MutBor W × Unit {0}))) (f : F) (bytes : List ℕ) : Type 0 where
+  pub out : MutBor W
+  pub input : Bor (List ℕ)
+  pub shows : input.now ≡ bytes
+  pub left : MutBor W
+  pub called : g.post f (out, (input, tt)) (Ok tt, (left, tt))

@@ -1,9 +1,13 @@
 // The text that an input comes to: the heading `action count mark` and a line for each pair, or only `refused N`.
-ghost use Rattle.std.specs.Prelude.{◌≡◌, length};
-ghost use Rattle.rules.specs.Run.{run, play_input, refusal, text_of, keyplay};
-ghost use Rattle.keyvalues.specs.View.{told};
-ghost use Rattle.mapparts.specs.View.{placed};
-ghost use Rattle.playback.specs.View.{Put, printed};
+ghost use Rattle.std.specs.List.{All};
+ghost use Rattle.std.specs.Prelude.{◌≡◌, List};
+ghost use Rattle.rules.specs.Basics.{accept};
+ghost use Rattle.rules.specs.Values.{Pair};
+ghost use Rattle.rules.specs.Run.{pair_bytes, refusal, text_of, keyplay};
+ghost use Rattle.keyvalues.specs.View.{number_of, told};
+ghost use Rattle.mapparts.specs.View.{Writes, placed};
+ghost use Rattle.mapfile.specs.View.{Small};
+ghost use Rattle.playback.specs.View.{played, Played, printed};
 
 use crate::{lines, put};
 use keyvalues::refusal::Refusal;
@@ -21,62 +25,51 @@ const MOST_INPUT: usize = 65536;
 pub const MOST_TEXT: usize = 262162;
 
 // The line `refused N`.
-#[tactic(auto, using(crate::proofs::Lined::refusal_stop, crate::proofs::Lined::refusal_stop_number, crate::proofs::Lined::refusal_stop_end, crate::proofs::Lined::refusal_put))]
-fn put_refusal(writer: &mut Writer, n: u32) -> Result<(), Refusal>
-    ensures same { (writer.new.bytes.ghost_name ≡ writer.old.bytes.ghost_name) × (length writer.new.bytes.now ≡ length writer.old.bytes.now) }
-    ensures puts { Put (refusal n) (writer.old.at, writer.old.bytes.now) result (writer.new.at, writer.new.bytes.now) }
+#[tactic(auto, using(crate::proofs::Lined::parts_placed))]
+fn put_refusal(writer: &mut Writer, why: Refusal) -> Result<(), Refusal>
+    ensures { Writes (placed (refusal (number_of why))) writer.old result writer.new }
 {
     writer.put_bytes(b"refused ")?;
-    put::put_decimal(writer, n, 5)?;
+    put::put_decimal(writer, why.number(), 5)?;
     writer.put_bytes(b"\n")?;
     Ok(())
 }
 
-// A map and keys, run with the program's budget and output.
-fn put_run(writer: &mut Writer, map: &[u8], keys: &[u8]) -> Result<(), Refusal>
-    ensures same { (writer.new.bytes.ghost_name ≡ writer.old.bytes.ghost_name) × (length writer.new.bytes.now ≡ length writer.old.bytes.now) }
-    ensures puts { Put (text_of (run map.now keys.now 1000 65536)) (writer.old.at, writer.old.bytes.now) result (writer.new.at, writer.new.bytes.now) }
+// The heading, and the lines of the pairs.
+#[tactic(auto, using(crate::proofs::Lined::parts_placed, crate::proofs::Putting::put_within))]
+fn put_pairs(writer: &mut Writer, bytes: &[u8]) -> Result<(), Refusal>
+    ensures { (ps : List Pair) → bytes.now ≡ pair_bytes ps → All Small ps → Writes (placed (text_of (accept ps))) writer.old result writer.new }
 {
-    let mut output = [0u8; run::MOST_OUTPUT];
-    let r = run::run(map, keys, &mut output, BUDGET);
-    let code = (r % 32) as u32;
-    if code != 0 {
-        return put_refusal(writer, code);
-    }
-    let size = (r / 32) as usize;
     writer.put_bytes(b"action count mark\n")?;
-    lines::put_lines(writer, &output[..size])
+    lines::put_lines(writer, bytes)
 }
 
-// The map's length, the map, then keys.
-#[tactic(auto, using(crate::proofs::Texts::play_bad, crate::proofs::Texts::play_short, crate::proofs::Texts::play_run))]
-fn put_play(writer: &mut Writer, input: &[u8]) -> Result<(), Refusal>
-    ensures same { (writer.new.bytes.ghost_name ≡ writer.old.bytes.ghost_name) × (length writer.new.bytes.now ≡ length writer.old.bytes.now) }
-    ensures puts { Put (text_of (play_input input.now)) (writer.old.at, writer.old.bytes.now) result (writer.new.at, writer.new.bytes.now) }
-{
-    let mut reader = Reader { rest: input };
-    let size = match reader.number() {
-        Ok(size) => size as usize,
-        Err(refusal) => return put_refusal(writer, refusal.number() as u32),
-    };
-    let rest = reader.rest;
-    if rest.len() < size {
-        return put_refusal(writer, 9);
-    }
-    let (map, keys) = rest.split_at(size);
-    put_run(writer, map, keys)
-}
-
-// Longer input is refused with 9.
-#[tactic(auto, using(crate::proofs::Texts::text_long, crate::proofs::Texts::text_played))]
-fn put_text(writer: &mut Writer, input: &[u8]) -> Result<(), Refusal>
-    ensures same { (writer.new.bytes.ghost_name ≡ writer.old.bytes.ghost_name) × (length writer.new.bytes.now ≡ length writer.old.bytes.now) }
-    ensures puts { Put (keyplay input.now) (writer.old.at, writer.old.bytes.now) result (writer.new.at, writer.new.bytes.now) }
+// An input is the map's length, the map, then keys. They are run with the program's budget and output; how many bytes of pairs
+// stand in front of the output is told. Longer input is refused.
+#[tactic(auto, using(crate::proofs::Texts::too_long, crate::proofs::Texts::play_bad, crate::proofs::Texts::play_short))]
+fn play(input: &[u8], output: &mut [u8; run::MOST_OUTPUT]) -> Result<usize, Refusal>
+    ensures { Played (played input.now) result output.new }
 {
     if MOST_INPUT < input.len() {
-        return put_refusal(writer, 9);
+        return Err(Refusal::Malformed);
     }
-    put_play(writer, input)
+    let mut reader = Reader { rest: input };
+    let size = reader.number()?;
+    let (map, keys) = reader
+        .rest
+        .split_at_checked(size as usize)
+        .ok_or(Refusal::Malformed)?;
+    run::run(map, keys, output, BUDGET)
+}
+
+fn put_text(writer: &mut Writer, input: &[u8]) -> Result<(), Refusal>
+    ensures { Writes (placed (keyplay input.now)) writer.old result writer.new }
+{
+    let mut output = [0u8; run::MOST_OUTPUT];
+    match play(input, &mut output) {
+        Ok(size) => put_pairs(writer, &output[..size]),
+        Err(refusal) => put_refusal(writer, refusal),
+    }
 }
 
 // The text of an input, in front of the lent bytes; answers its length. Refused, they have a part of it.
@@ -88,16 +81,14 @@ fn put_or_scratch(text: &mut [u8], input: &[u8]) -> Result<usize, Refusal>
     Ok(writer.at)
 }
 
-// The text of an input, in front of lent bytes; answers its length. Where it does not fit: 0, and all zeros.
+// The text of an input, in front of lent bytes; answers its length. Where it does not fit, it is refused, and they are zeros.
 #[tactic(auto, using(crate::proofs::Putting::printed_fits, crate::proofs::Putting::printed_over))]
-pub fn keyplay(input: &[u8], text: &mut [u8]) -> usize
-    ensures { (result, text.new) ≡ printed text.old (keyplay input.now) }
+pub fn keyplay(input: &[u8], text: &mut [u8]) -> Result<usize, Refusal>
+    ensures { (told (λ n. n) result, text.new) ≡ printed text.old (keyplay input.now) }
 {
-    match put_or_scratch(text, input) {
-        Ok(size) => size,
-        Err(_) => {
-            text.fill(0);
-            0
-        }
+    let size = put_or_scratch(text, input);
+    if size.is_err() {
+        text.fill(0);
     }
+    size
 }

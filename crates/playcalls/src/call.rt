@@ -1,23 +1,13 @@
 // The calls, as they are read.
 use crate::path;
+use keptcalls::binding::Binding;
 use keypairs::context::Context;
-use keyvalues::path::EdgePath;
 use keyvalues::refusal::Refusal;
-use keyvalues::step::Step;
 use mapparts::reader::Reader;
 
 #[derive(Clone, Copy)]
 pub(crate) enum Call {
-    Map {
-        mode: u16,
-        path: EdgePath,
-        step: Step,
-    },
-    Prefix {
-        mode: u16,
-        path: EdgePath,
-        step: Option<Step>,
-    },
+    Bind(Binding),
     Key {
         key: u16,
         budget: u16,
@@ -41,40 +31,34 @@ pub(crate) enum Call {
     Unknown,
 }
 
-fn read_map(input: &mut Reader) -> Result<Call, Refusal> {
+// Mode, path, and the step for kinds 0 and 2. None where a number has no value of its type.
+fn read_binding(input: &mut Reader, kind: u16) -> Result<Option<Binding>, Refusal> {
     let mode = input.number()?;
     let path = path::read_path(input)?;
-    let step = path::read_step(input)?;
-    Ok(match (path, step) {
-        (Some(path), Some(step)) => Call::Map { mode, path, step },
-        _ => Call::Unknown,
-    })
-}
-
-fn read_prefix(input: &mut Reader) -> Result<Call, Refusal> {
-    let mode = input.number()?;
-    Ok(match path::read_path(input)? {
-        Some(path) => Call::Prefix {
+    match kind {
+        0 => {
+            let step = path::read_step(input)?;
+            Ok(
+                path.zip(step)
+                    .map(|(path, step)| Binding::Mapping { mode, path, step }),
+            )
+        }
+        1 => Ok(path.map(|path| Binding::Prefix {
             mode,
             path,
             step: None,
-        },
-        None => Call::Unknown,
-    })
-}
-
-fn read_prefix_step(input: &mut Reader) -> Result<Call, Refusal> {
-    let mode = input.number()?;
-    let path = path::read_path(input)?;
-    let step = path::read_step(input)?;
-    Ok(match (path, step) {
-        (Some(path), Some(step)) => Call::Prefix {
-            mode,
-            path,
-            step: Some(step),
-        },
-        _ => Call::Unknown,
-    })
+        })),
+        _ => {
+            let step = path::read_step(input)?;
+            Ok(
+                path.zip(step).map(|(path, step)| Binding::Prefix {
+                    mode,
+                    path,
+                    step: Some(step),
+                }),
+            )
+        }
+    }
 }
 
 // 0, or 1 with a count and a mark; any other number is a malformed call.
@@ -92,9 +76,9 @@ fn read_override(input: &mut Reader) -> Result<Option<Context>, Refusal> {
 impl Call {
     pub(crate) fn read(input: &mut Reader) -> Result<Call, Refusal> {
         match input.number()? {
-            0 => read_map(input),
-            1 => read_prefix(input),
-            2 => read_prefix_step(input),
+            kind @ (0 | 1 | 2) => {
+                Ok(read_binding(input, kind)?.map_or(Call::Unknown, Call::Bind))
+            }
             3 => Ok(Call::Key {
                 key: input.number()?,
                 budget: input.number()?,

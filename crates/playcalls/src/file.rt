@@ -1,6 +1,7 @@
 // The map file that the machine writes, as hexadecimal digits.
+use crate::print;
 use keymachine::scanner::Scanner;
-use mapwrite::map;
+use keymap::lent;
 use std::io;
 use std::io::Write;
 
@@ -17,14 +18,13 @@ fn print_bytes<W: Write>(out: &mut W, bytes: &[u8]) -> io::Result<()> {
 
 // The answer of a write to the lent bytes.
 fn print_written<W: Write>(out: &mut W, m: &Scanner, output: &mut [u8]) -> io::Result<()> {
-    let r = map::write_map(&m.kept, m.machine.map.kept, &m.machine.map.tables, output);
-    let refusal = r % 32;
-    if refusal != 0 {
-        return write!(out, "refused {refusal}");
+    match lent::write(m, output) {
+        Ok(size) => {
+            write!(out, "file ")?;
+            print_bytes(out, &output[..size])
+        }
+        Err(refusal) => print::refused(out, refusal),
     }
-    let size = (r / 32) as usize;
-    write!(out, "file ")?;
-    print_bytes(out, &output[..size])
 }
 
 // The same, to so many bytes.

@@ -9,6 +9,8 @@ mod path;
 mod play;
 mod print;
 mod tables;
+#[cfg(test)]
+mod tests;
 
 use keyvalues::refusal::Refusal;
 use std::io;

@@ -17,11 +17,12 @@ pub(crate) fn read_list<T: Copy, F: Fn(&mut Reader) -> Result<T, Refusal>>(
     requires { F.IsAlwaysCallable read }
 {
     let count = input.number()?;
-    for i in 0..count as usize {
-        let item = read(input)?;
-        if i < items.len() {
-            items[i] = item;
-        }
+    let room = items.len();
+    for item in items.iter_mut().take(count as usize) {
+        *item = read(input)?;
+    }
+    for _ in room..count as usize {
+        read(input)?;
     }
     Ok(count)
 }

@@ -9,16 +9,15 @@ use keyvalues::step::Step;
 use mapparts::reader::Reader;
 
 fn read_repeat(input: &mut Reader) -> Result<Option<EdgeRepeat>, Refusal> {
-    let kind = input.number()?;
-    if kind == 0 {
-        return Ok(Some(EdgeRepeat::Once));
+    match input.number()? {
+        0 => Ok(Some(EdgeRepeat::Once)),
+        1 => Ok(Some(EdgeRepeat::Min(input.number()?))),
+        2 => Ok(Some(EdgeRepeat::Max(input.number()?))),
+        _ => {
+            input.number()?;
+            Ok(None)
+        }
     }
-    let n = input.number()?;
-    Ok(match kind {
-        1 => Some(EdgeRepeat::Min(n)),
-        2 => Some(EdgeRepeat::Max(n)),
-        _ => None,
-    })
 }
 
 fn read_event(input: &mut Reader) -> Result<Option<EdgeEvent>, Refusal> {
@@ -34,10 +33,11 @@ fn read_event(input: &mut Reader) -> Result<Option<EdgeEvent>, Refusal> {
 fn read_part(input: &mut Reader) -> Result<Option<EdgePathPart>, Refusal> {
     let repeat = read_repeat(input)?;
     let event = read_event(input)?;
-    Ok(match (repeat, event) {
-        (Some(repeat), Some(event)) => Some(EdgePathPart { repeat, event }),
-        _ => None,
-    })
+    Ok(
+        repeat
+            .zip(event)
+            .map(|(repeat, event)| EdgePathPart { repeat, event }),
+    )
 }
 
 // Of more parts than a path holds the count is kept: such a path is refused, whatever its parts.
@@ -69,8 +69,7 @@ pub(crate) fn read_step(input: &mut Reader) -> Result<Option<Step>, Refusal> {
     let actions = tables::read_actions(input)?;
     let step = Step {
         unmapped: flag == 1,
-        actions: actions.items,
-        count: actions.count,
+        actions,
         next: read_maybe(input)?,
         fallthrough: read_maybe(input)?,
         mark: read_mark(input)?,

@@ -13,13 +13,7 @@ use std::io::Write;
 // Makes the call, and prints its answer.
 fn perform<W: Write>(out: &mut W, m: &mut Scanner, call: Call) -> io::Result<()> {
     match call {
-        Call::Map { mode, path, step } => print::settled(
-            out,
-            lent::add_mapping(m, mode, path, step),
-        ),
-        Call::Prefix { mode, path, step } => {
-            print::settled(out, lent::add_prefix(m, mode, path, step))
-        }
+        Call::Bind(call) => print::settled(out, lent::bind(m, &call)),
         Call::Key { key, budget } => print::pressed(out, lent::input_key(m, key, budget)),
         Call::Pop => print::waiting(out, lent::pop(m)),
         Call::Repeat { sequence, over } => print::settled(out, lent::repeat(m, sequence, over)),
@@ -55,13 +49,18 @@ fn open(input: &mut Reader, m: &mut Scanner) -> Result<(), Refusal> {
     lent::open(m, tables)
 }
 
+// The machine that the calls begin with.
+pub(crate) fn fresh() -> Scanner {
+    Scanner {
+        machine: ModalMachine::fresh(),
+        kept: [CallWords::EMPTY; CallWords::KEPT as usize],
+    }
+}
+
 // The tables, and then the calls.
 pub(crate) fn play<W: Write>(out: &mut W, bytes: &[u8]) -> io::Result<()> {
     let mut input = Reader { rest: bytes };
-    let mut m = Scanner {
-        machine: ModalMachine::fresh(),
-        kept: [CallWords::EMPTY; CallWords::KEPT as usize],
-    };
+    let mut m = fresh();
     match open(&mut input, &mut m) {
         Err(refusal) => print::refused_line(out, refusal),
         Ok(()) => play_calls(out, &mut input, &mut m),

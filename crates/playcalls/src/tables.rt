@@ -1,15 +1,15 @@
 // The three tables and lists of actions, with any numbers.
 use crate::list::{read_list, read_maybe};
 use keytables::rule::Rule;
-use keytables::tables::{Actions, ClassEntry, ModeEntry, Tables};
+use keytables::tables::{ClassEntry, ModeEntry, Tables};
+use keyvalues::actions::Actions;
 use keyvalues::refusal::Refusal;
-use keyvalues::step::Step;
 use mapparts::reader::Reader;
 
 pub(crate) fn read_actions(input: &mut Reader) -> Result<Actions, Refusal> {
-    let mut items = [0u16; Step::ACTIONS as usize];
-    let count = read_list(input, &mut items, |r| r.number())?;
-    Ok(Actions { items, count })
+    let mut actions = Actions::default();
+    actions.count = read_list(input, &mut actions.items, |r| r.number())?;
+    Ok(actions)
 }
 
 fn read_class(input: &mut Reader) -> Result<ClassEntry, Refusal> {
@@ -39,7 +39,7 @@ fn read_rule(input: &mut Reader) -> Result<Rule, Refusal> {
 }
 
 pub(crate) fn read_tables(input: &mut Reader) -> Result<Tables, Refusal> {
-    let mut tables = Tables::empty();
+    let mut tables = Tables::default();
     tables.sizes.classes = read_list(input, &mut tables.classes, read_class)?;
     tables.sizes.modes = read_list(input, &mut tables.modes, read_mode)?;
     tables.sizes.rules = read_list(input, &mut tables.rules, read_rule)?;

@@ -3,11 +3,9 @@
 #![tactic(auto)]
 
 use std::io;
-use std::io::{BufWriter, Write};
 
 fn main(rt: HostRuntime) -> io::Result<()> {
-    let input = playback::read_input(rt.alloc(), rt.stdin(), 400000)?;
-    let mut out = BufWriter::new(rt.alloc(), rt.stdout())?;
-    framed::cases(&mut out, &input, playcalls::answer)?;
-    out.flush()
+    playback::serve(rt.alloc(), rt.stdin(), rt.stdout(), 400000, |out, input| {
+        framed::cases(out, input, playcalls::answer)
+    })
 }

@@ -1,23 +1,25 @@
--- After i turns the first i parts are those of the words.
-use Rattle.std.proofs.Common.{◌≡◌, ap, ◌∙◌, ◌≤◌, min, length, take, arith, length-set}
+-- Each part is that of its code, and no more than 32 are there.
+use Rattle.std.proofs.Common.{rules, ℕ, List, ◌≡◌, ◌∙◌, min, length, take, arith}
+use borrow.Author.Tests.{tests}
 use mathlib.Core.List.{map}
-use lib.Seq.{take_all}
-use Rattle.keyvalues.specs.View.{part_of, no_part}
-use Rattle.keyvalues.proofs.Words.{take_min}
-use Rattle.keyvalues.proofs.Ranges.{fit_take}
-use Rattle.keptcalls.specs.View.{parts_in, part_at}
-use Rattle.keptcalls.proofs.Reading.{length-parts, parts_more}
+use lib.ListN.{length-map}
+use Rattle.keyvalues.specs.View.{fit, part_of, no_part}
+use Rattle.keyvalues.specs.declared.path.EdgePathPart.{EdgePathPart}
+use Rattle.keyvalues.proofs.Ranges.{fits}
+use Rattle.std.proofs.lemmas.Grind.{common_steps}
+use Rattle.keptcalls.specs.View.{part_at}
+use Rattle.keyvalues.proofs.Maps.{mapped}
 use Rattle.keptcalls.proofs.unpack.path.Goals as goal
 
-pub loop-i-preserved : goal.loop-i-preserved
-loop-i-preserved c = let l = c.loop-i in let ws = c.args.words.now in
-    (simp length-set l.invariant.0, parts_more ws l.parts l.i c.part.result (omega (arith, l.invariant.0)) (omega (arith, c.told-words)) l.invariant.1 (c.part.ensures ∙ ap part_at c.half.ensures))
+-- the first parts of the array, whole and as they are there
+front : (ps : List EdgePathPart) (cs : List ℕ) (n : ℕ) → length cs ≡ 32 → map part_of ps ≡ map part_at cs
+    → (fit no_part (min n 32) (map part_of ps) ≡ take n (map part_at cs)) × (map part_of (take (min n 32) ps) ≡ take n (map part_at cs))
+front ps cs n l e =
+    let k : length (map part_at cs) ≡ 32 = length-map cs part_at ∙ l in
+    (grind (arith, fits, common_steps), grind (arith, fits, common_steps))
 
 pub returns : goal.returns
-returns c = let l = c.loop-i in let ws = c.args.words.now in let n = c.args.count in
-    let k : length (parts_in ws) ≡ 32 = omega (arith, length-parts ws, c.told-words) in
-    let p : take l.i l.parts ≡ l.parts = take_all l.i l.parts (omega (arith, l.invariant.0)) in
-    let q : take l.i (parts_in ws) ≡ parts_in ws = take_all l.i (parts_in ws) (omega (arith, k)) in
-    let e : map part_of l.parts ≡ parts_in ws = rw (p, q) at l.invariant.1 in
-    let m : min n 32 ≤ length (parts_in ws) = omega (arith, k) in
-    rw (e, c.min.ensures, fit_take no_part (min n 32) (parts_in ws) m) (take_min n 32 (parts_in ws) k)
+returns c = let cs = c.args.codes.now in
+    let e = mapped part_of part_at cs c.map.result c.told-codes c.map.ensures.items (λ p q x y k. search (rules, tests)) in
+    let h = front c.map.result cs c.args.count c.told-codes e in
+    rw c.min.ensures (record { whole = h.0; there = h.1 })

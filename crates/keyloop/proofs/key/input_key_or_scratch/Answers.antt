@@ -1,14 +1,14 @@
 -- After each round the loop over the keys that are left comes to what the whole loop comes to.
-use Rattle.std.proofs.Common.{◌≡◌, sym, ap, ◌∙◌, ℕ, ◌-◌, ◌≤◌, ◌<◌, List, ◌∷◌, [], length, subst, arith}
+use Rattle.std.proofs.Common.{ap, ◌∙◌, ◌≤◌, ◌<◌, ◌∷◌, [], length, subst, arith}
 use native.Mathlib.Nat.{sub-zero}
-use Rattle.rules.specs.KeyLoop.{input_key, loop}
+use Rattle.rules.specs.KeyLoop.{input_key}
 use Rattle.rules.proofs.Weights.{weight_cons, weight_nil, length-weight}
 use Rattle.keytables.specs.View.{tables_of}
 use Rattle.keypairs.specs.View.{live_of}
 use Rattle.keyloop.specs.Stack.{keys_of}
 use Rattle.keyloop.specs.View.{navigator_of}
 use Rattle.keyloop.proofs.Weighed.{splits, weight_twice, Light}
-use Rattle.keyloop.proofs.Loop.{stopped, finished, loop_go, loop_stop, loop_out, loop_done, light_on}
+use Rattle.keyloop.proofs.Loop.{loop_go, light_on}
 use borrow.Author.Rules.{rules}
 use Rattle.keyloop.proofs.key.input_key_or_scratch.Goals as goal
 
@@ -23,38 +23,15 @@ loop-rounds-init c = let a = c.args in let tr = (live_of (tables_of a.map.now.ta
       same = rw (c.of-stack.ensures, sub-zero);
     }
 
-pub returns-in-None : goal.returns-in-None
-returns-in-None c = let l = c.loop-rounds in let a = c.args in let m = live_of (tables_of a.map.now.tables.now) l.live in let nav = navigator_of a.map.now in
-    sym (l.invariant.same ∙ ap (λ (ks : List ℕ). loop nav (a.budget - l.rounds) l.rounds ks m) c.in-None.ensures ∙ loop_done nav (a.budget - l.rounds) l.rounds m)
-
-pub round-requires-clause-one : goal.round-requires-clause-one
-round-requires-clause-one c = let l = c.loop-rounds in let T = tables_of c.args.map.now.tables.now in let ks = keys_of c.pop.new.self in let k = c.in-Some.key in
+pub round-requires : goal.round-requires
+round-requires c = let l = c.loop-rounds in let T = tables_of c.args.map.now.tables.now in let ks = keys_of c.pop.new.self in let k = c.in-Some.key in
     let h : Light (k ∷ ks) (live_of T l.live) = subst (λ ks. Light ks (live_of T l.live)) c.in-Some.ensures l.invariant.light in
-    omega (arith, h.few, weight_cons splits k ks, length-weight splits ks)
-
-pub round-requires-clause-all : goal.round-requires-clause-all
-round-requires-clause-all c = let l = c.loop-rounds in let T = tables_of c.args.map.now.tables.now in let ks = keys_of c.pop.new.self in let k = c.in-Some.key in
-    let h : Light (k ∷ ks) (live_of T l.live) = subst (λ ks. Light ks (live_of T l.live)) c.in-Some.ensures l.invariant.light in
-    omega (arith, h.all, weight_cons splits k ks, length-weight splits ks, length-weight splits (live_of T l.live).shared.trail)
-
-pub returns-in-Err : goal.returns-in-Err
-returns-in-Err c = let l = c.loop-rounds in let a = c.args in let m = live_of (tables_of a.map.now.tables.now) l.live in let nav = navigator_of a.map.now in let ks = keys_of c.pop.new.self in let k = c.in-Some.key in
-    sym (l.invariant.same ∙ ap (λ (ks : List ℕ). loop nav (a.budget - l.rounds) l.rounds ks m) c.in-Some.ensures ∙ loop_stop nav a.budget l.rounds k ks m c.loop-rounds-test.true _ c.in-Err.ensures)
+    (omega (arith, h.few, weight_cons splits k ks, length-weight splits ks), omega (arith, h.all, weight_cons splits k ks, length-weight splits ks, length-weight splits (live_of T l.live).shared.trail))
 
 pub loop-rounds-preserved : goal.loop-rounds-preserved
 loop-rounds-preserved c = let l = c.loop-rounds in let a = c.args in let T = tables_of a.map.now.tables.now in let m = live_of T l.live in let nav = navigator_of a.map.now in let ks = keys_of c.pop.new.self in let k = c.in-Some.key in
     let h : Light (k ∷ ks) m = subst (λ ks. Light ks m) c.in-Some.ensures l.invariant.light in
     let small : k < 65536 = search rules in record {
       light = light_on nav k ks (keys_of c.round.new.stack) m (live_of T c.round.new.live) small h c.in_default.ensures;
-      same = l.invariant.same ∙ ap (λ (ks : List ℕ). loop nav (a.budget - l.rounds) l.rounds ks m) c.in-Some.ensures ∙ loop_go nav a.budget l.rounds k ks m c.loop-rounds-test.true _ _ c.in_default.ensures;
+      same = loop_go nav a.budget l.rounds k (keys_of l.stack) ks m c.in-Some.ensures _ _ c.loop-rounds-test.true c.in_default.ensures ∙ l.invariant.same;
     }
-
-pub returns-in-None-pop : goal.returns-in-None-pop
-returns-in-None-pop c = let l = c.loop-rounds in let a = c.args in let m = live_of (tables_of a.map.now.tables.now) l.live in let nav = navigator_of a.map.now in
-    let r : l.rounds ≡ a.budget = omega (arith, c.loop-rounds-test.false, l.auto.rounds-end) in
-    sym (l.invariant.same ∙ ap (λ (ks : List ℕ). loop nav (a.budget - l.rounds) l.rounds ks m) c.in-None-pop.ensures ∙ loop_done nav (a.budget - l.rounds) l.rounds m ∙ ap (λ (n : ℕ). finished n m) r)
-
-pub returns-in-Some-pop : goal.returns-in-Some-pop
-returns-in-Some-pop c = let l = c.loop-rounds in let a = c.args in let m = live_of (tables_of a.map.now.tables.now) l.live in let nav = navigator_of a.map.now in
-    let r : l.rounds ≡ a.budget = omega (arith, c.loop-rounds-test.false, l.auto.rounds-end) in
-    sym (l.invariant.same ∙ ap (λ (ks : List ℕ). loop nav (a.budget - l.rounds) l.rounds ks m) c.in-Some-pop.ensures ∙ loop_out nav a.budget l.rounds _ _ m c.loop-rounds-test.false ∙ ap (λ (n : ℕ). stopped n 8) r)

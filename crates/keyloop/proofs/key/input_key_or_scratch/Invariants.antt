@@ -1,3 +1,4 @@
+-- The loop over the keys that are left comes to what the whole loop comes to, and the stack has room for them.
 use Rattle.std.proofs.Common.{◌≡◌, ◌-◌}
 use Rattle.rules.specs.KeyLoop.{input_key, loop}
 use Rattle.keytables.specs.View.{tables_of}
@@ -10,6 +11,6 @@ use Rattle.keyloop.proofs.key.input_key_or_scratch.Given as goal
 abbrev pub invariant-loop-rounds : goal.invariant-loop-rounds
 invariant-loop-rounds l = record {
   light : Light (keys_of l.stack) (live_of (tables_of l.map.tables.now) l.live);
-  same : input_key (navigator_of l.map) (record { key = l.first; budget = l.budget }) (live_of (tables_of l.map.tables.now) l.initial.live)
-      ≡ loop (navigator_of l.map) (l.budget - l.rounds) l.rounds (keys_of l.stack) (live_of (tables_of l.map.tables.now) l.live);
+  same : loop (navigator_of l.map) (l.budget - l.rounds) l.rounds (keys_of l.stack) (live_of (tables_of l.map.tables.now) l.live)
+      ≡ input_key (navigator_of l.map) (record { key = l.first; budget = l.budget }) (live_of (tables_of l.map.tables.now) l.initial.live);
 }

@@ -1,23 +1,26 @@
 -- The index leads as the graph's edges do, so the key in place comes to what `input_key` says of the graph; accepted, its copy
 -- becomes the live state, and refused, nothing does.
-use Rattle.std.specs.Prelude
-use Rattle.std.proofs.Common.{sym, ap, ◌∙◌, ℕ}
-use Rattle.rules.specs.KeyLoop.{KeyResult, Navigator, Input, input_key}
-use Rattle.keyvalues.specs.declared.refusal.Refusal.{Refusal}
-use Rattle.keyvalues.specs.View.{told}
-use Rattle.keyparts.specs.View.{graph_of}
+use Rattle.std.proofs.Common.{◌≡◌, ap, ◌∙◌, ℕ}
+use Rattle.rules.specs.KeyLoop.{State, Navigator, Input, input_key}
+use Rattle.rules.specs.Calls.{graph_navigator}
+use Rattle.keyparts.specs.declared.graph.Graph.{Graph}
+use Rattle.keyparts.specs.declared.index.Index.{Index}
+use Rattle.keyparts.specs.View.{graph_of, edge_words, Indexed}
 use Rattle.keytables.specs.View.{tables_of}
-use Rattle.keypairs.specs.View.{live_of, machine_by}
+use Rattle.keypairs.specs.View.{machine_by}
+use Rattle.keyloop.specs.View.{link_navigator}
 use Rattle.keyloop.proofs.Navigators.{index_leads}
-use Rattle.keymachine.proofs.Calls.{press_refused, press_done}
+use Rattle.keymachine.proofs.Calls.{press_done, press_refused}
 use Rattle.keymachine.proofs.live.input_key.Goals as goal
 
-pub returns-in-Ok : goal.returns-in-Ok
-returns-in-Ok c ks = let a = c.args in let m = machine_by (graph_of a.graph.now) ks (tables_of a.tables.now) a.live.now in let i : Input = record { key = a.key; budget = a.budget } in let r = c.input_key_or_scratch-rounds in
-    let key : Prelude.Result (Unit {0}) Refusal → KeyResult ℕ = λ y. record { rounds = r.result.0; result = told (λ _. live_of (tables_of a.tables.now) r.new.live) y } in
-    press_done m i _ _ (ap key (sym c.in-Ok.is) ∙ r.ensures ∙ ap (λ (nav : Navigator ℕ). input_key nav i m.state) (index_leads a.graph.now c.new-index.result c.new-index.ensures))
+-- a key by the links of an index of the graph
+leads : (gr : Graph) (ix : Index) (i : Input) (m : State ℕ) → Indexed (edge_words gr) ix.links → input_key (link_navigator gr ix) i m ≡ input_key (graph_navigator (graph_of gr)) i m
+leads gr ix i m h = ap (λ (nav : Navigator ℕ). input_key nav i m) (index_leads gr ix h)
 
-pub returns-in-Err : goal.returns-in-Err
-returns-in-Err c ks = let a = c.args in let m = machine_by (graph_of a.graph.now) ks (tables_of a.tables.now) a.live.now in let i : Input = record { key = a.key; budget = a.budget } in let r = c.input_key_or_scratch-rounds in
-    let key : Prelude.Result (Unit {0}) Refusal → KeyResult ℕ = λ y. record { rounds = r.result.0; result = told (λ _. live_of (tables_of a.tables.now) r.new.live) y } in
-    press_refused m i _ _ (ap key (sym c.in-Err.is) ∙ r.ensures ∙ ap (λ (nav : Navigator ℕ). input_key nav i m.state) (index_leads a.graph.now c.new-index.result c.new-index.ensures))
+pub returns-then-is_ok : goal.returns-then-is_ok
+returns-then-is_ok c ks = let a = c.args in let m = machine_by (graph_of a.graph.now) ks (tables_of a.tables.now) a.live.now in let r = c.input_key_or_scratch-pressed in
+    press_done m _ _ _ r.result.1 (r.ensures ∙ leads a.graph.now c.new-index.result _ m.state c.new-index.ensures) c.if-is_ok.ensures.value
+
+pub returns-else-is_ok : goal.returns-else-is_ok
+returns-else-is_ok c ks = let a = c.args in let m = machine_by (graph_of a.graph.now) ks (tables_of a.tables.now) a.live.now in let r = c.input_key_or_scratch-pressed in
+    press_refused m _ _ _ r.result.1 (r.ensures ∙ leads a.graph.now c.new-index.result _ m.state c.new-index.ensures) c.if-is_ok.ensures.value

@@ -1,21 +1,17 @@
 -- A rule that matches tracks its sequence, and another changes nothing.
 use Rattle.std.proofs.Common.{◌≡◌, true, ◌<◌, length, sym, ap, ◌∙◌, arith}
+use Rattle.rules.specs.Values.{Pair}
 use Rattle.rules.specs.Tables.{matches}
 use Rattle.rules.specs.KeyLoop.{apply_rule}
 use Rattle.keytables.specs.View.{rule_by}
 use Rattle.keypairs.specs.View.{pair_of}
 use Rattle.keypairs.proofs.Pushes.{rule_tracks}
-use Rattle.keypairs.proofs.Sequences.{pair_action}
 use borrow.Author.Rules.{rules}
 use Rattle.keypairs.proofs.rule.apply_rule.Goals as goal
 
 pub returns-then-matches : goal.returns-then-matches
 unfolding apply_rule
-returns-then-matches c = let a = c.args in let r = c.unpack-rule in let n : length a.sequences.now ≡ 8 = search rules in
+returns-then-matches c = let a = c.args in let r = c.from-rule in let n : length a.sequences.now ≡ 8 = search rules in
     let h : r.result.sequence < length a.sequences.now = omega (arith, r.ensures.1) in
-    let m : matches (rule_by r.result) a.mode (pair_of a.w).action ≡ true = ap (matches (rule_by r.result) a.mode) (pair_action a.w ∙ sym c.low.ensures) ∙ sym c.matches.ensures ∙ c.if-matches.true in
-    rw (← r.ensures.0, m, ← c.of.ensures) (rule_tracks a.sequences.now r.result.sequence _ _ h _ (pair_of a.w) c.track.result c.track.ensures)
-
-pub returns : goal.returns
-unfolding apply_rule
-returns c = rw (← c.unpack-rule.ensures.0, pair_action c.args.w, ← c.low.ensures, ← c.matches.ensures, c.if-matches.false)
+    let m : matches (rule_by r.result) a.mode (pair_of a.w).action ≡ true = ap (λ (p : Pair). matches (rule_by r.result) a.mode p.action) (sym c.unpack.ensures) ∙ sym c.matches.ensures ∙ c.if-matches.true in
+    rw (← r.ensures.0, m, ← c.from.ensures) (rule_tracks a.sequences.now r.result.sequence _ _ h _ (pair_of a.w) c.track.result c.track.ensures)

@@ -1,3 +1,4 @@
+-- Met is whether one of the words so far has the key.
 use lib.ListN.{take}
 use mathlib.Core.Path.{◌≡◌}
 use Rattle.std.specs.List.{list_any}

@@ -15,4 +15,4 @@ unfolding key_is
 returns c = let a = c.args in let n = c.words_passed-passed.result in
     let rest = take (length a.words.now - n) (drop n a.words.now) in
     let e = position_from_yields_List (key_is a.key) _ _ c.position-place.result c.position-place.ensures.ran (YieldsList-from_slice rest c.iter.ensures.rest) (λ x b q k. search (rules, tests)) in
-    ap (λ (i : ℕ). n + i) (c.unwrap_or.ensures ∙ ap (λ r. unwrap_or r (length rest)) e ∙ place_or (key_is a.key) rest) ∙ first_in_rest (key_is a.key) n a.words.now c.words_passed-passed.ensures.before
+    ap (λ (i : ℕ). n + i) (c.unwrap_or.ensures ∙ ap (λ r. unwrap_or r (length rest)) e ∙ place_or (key_is a.key) rest) ∙ first_in_rest (key_is a.key) n a.words.now c.words_passed-passed.ensures

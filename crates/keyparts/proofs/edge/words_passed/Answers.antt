@@ -10,22 +10,13 @@ use Rattle.std.proofs.Common.{rules, tests}
 use Rattle.std.proofs.lemmas.Iterator.{YieldsList-from_slice}
 use Rattle.std.proofs.lemmas.Iterator.Search.{position_from_yields_List}
 use Rattle.keyparts.specs.View.{first_place, key_is}
-use Rattle.keyparts.proofs.Finds.{first_most, place_or, blocks_before}
-use Rattle.keyparts.proofs.edge.words_passed.Goals.{After-unwrap_or}
+use Rattle.keyparts.proofs.Finds.{place_or, blocks_before}
 use Rattle.keyparts.proofs.edge.words_passed.Goals as goal
 
--- the number of blocks that are passed
-blocks_passed : (c : After-unwrap_or) → c.unwrap_or.result ≡ first_place (list_any (key_is c.args.key)) (first_chunks 8 (length c.args.words.now / 8) c.args.words.now)
-blocks_passed c =
-    let e = position_from_yields_List (list_any (key_is c.args.key)) _ _ c.position-passed.result c.position-passed.ensures.ran (YieldsList-from_slice _ c.iter.ensures.rest) (λ x b q k. search (rules, tests)) in
-    rw (← c.as_chunks.ensures.front) (c.unwrap_or.ensures ∙ ap (λ r. unwrap_or r (length c.as_chunks.result.0.now)) e ∙ place_or (list_any (key_is c.args.key)) c.as_chunks.result.0.now)
-
-pub returns-clause-before : goal.returns-clause-before
-returns-clause-before c = let a = c.args in
+pub returns : goal.returns
+returns c = let a = c.args in
+    let e = position_from_yields_List (list_any (key_is a.key)) _ _ c.position-passed.result c.position-passed.ensures.ran (YieldsList-from_slice _ c.iter.ensures.rest) (λ x b q k. search (rules, tests)) in
+    let passed : c.unwrap_or.result ≡ first_place (list_any (key_is a.key)) (first_chunks 8 (length a.words.now / 8) a.words.now)
+    = rw (← c.as_chunks.ensures.front) (c.unwrap_or.ensures ∙ ap (λ r. unwrap_or r (length c.as_chunks.result.0.now)) e ∙ place_or (list_any (key_is a.key)) c.as_chunks.result.0.now) in
     let l : length a.words.now / 8 * 8 ≤ length a.words.now = omega arith in
-    rw (blocks_passed (goal.at.returns-clause-before c).After-unwrap_or) (blocks_before (key_is a.key) 8 (length a.words.now / 8) a.words.now l)
-
-pub returns-clause-within : goal.returns-clause-within
-returns-clause-within c = let a = c.args in
-    let l : length a.words.now / 8 * 8 ≤ length a.words.now = omega arith in
-    rw (blocks_passed (goal.at.returns-clause-within c).After-unwrap_or) (omega (arith, first_most (key_is a.key) a.words.now, blocks_before (key_is a.key) 8 (length a.words.now / 8) a.words.now l))
+    rw passed (blocks_before (key_is a.key) 8 (length a.words.now / 8) a.words.now l)

@@ -1,3 +1,4 @@
+-- What is still to be played, from the machine and the pairs so far, comes to what the whole play comes to; a key takes a byte.
 use Prim.Native.Nat.{ℕ}
 use mathlib.Core.Path.{◌≡◌}
 use mathlib.Core.List.{List}
@@ -12,8 +13,11 @@ use Rattle.mapfile.proofs.Playing.{Playing}
 use Rattle.mapfile.proofs.play.play_keys.Given as goal
 
 abbrev pub invariant-loop-reader : goal.invariant-loop-reader
-invariant-loop-reader l = (l.writer.bytes.ghost_name ≡ l.initial.writer.bytes.ghost_name) × (length l.writer.bytes.now ≡ length l.initial.writer.bytes.now)
-    × ((cs : List Binding) (ks : List ℕ) → read_keys l.keys ≡ accept ks → Playing (graph_of l.map.graph.now) cs (tables_of l.map.tables.now) l.budget l.initial.writer.bytes.now ks l.reader.rest.now (live_of (tables_of l.map.tables.now) l.live) l.writer.at l.writer.bytes.now)
+invariant-loop-reader l = record {
+  name : l.writer.bytes.ghost_name ≡ l.initial.writer.bytes.ghost_name;
+  long : length l.writer.bytes.now ≡ length l.initial.writer.bytes.now;
+  left : (cs : List Binding) (ks : List ℕ) → read_keys l.keys ≡ accept ks → Playing (graph_of l.map.indexed.graph.now) cs (tables_of l.map.tables.now) l.budget l.initial.writer.bytes.now ks l.reader.rest.now (live_of (tables_of l.map.tables.now) l.live) l.writer.at l.writer.bytes.now;
+}
 
 abbrev pub decreases-loop-reader : goal.decreases-loop-reader
 decreases-loop-reader l = length l.reader.rest.now

@@ -1,3 +1,4 @@
+-- What is told of the keys that are left is so of all, and each takes a byte.
 use lib.ListN.{length}
 use Rattle.rules.specs.Run.{read_keys}
 use Rattle.std.specs.Prelude as Prelude

@@ -1,3 +1,4 @@
+-- The elements so far, and those that are left to read, come to the whole list.
 use mathlib.Core.List.{map}
 use lib.ListN.{take}
 use Rattle.mapparts.proofs.Reading.{Left}

@@ -1,54 +1,53 @@
--- The loop keeps: the count and the first elements are put, in order.
-use Prim.Native.Nat.{◌+◌}
+-- The loop keeps: what is still to be put, from the page so far, comes to what the whole list comes to.
 use native.Mathlib.Omega.{arith}
 use mathlib.Core.Path.{◌≡◌, sym, ap, ◌∙◌}
-use mathlib.Core.List.{◌++◌, flat_map}
-use lib.ListN.{take, drop}
+use mathlib.Core.List.{map}
+use lib.ListN.{take}
 use Rattle.rules.specs.Basics.{refuse}
 use Rattle.rules.specs.Writing.{listed}
 use Rattle.keyvalues.specs.View.{number_of}
-use Rattle.mapparts.specs.View.{Page, put_all}
-use Rattle.mapparts.proofs.Writing.{put_more, put_stop}
-use Rattle.mapwrite.proofs.Lists.{first, first_more, first_rest, first_all}
+use Rattle.mapparts.specs.View.{page_of, put_all}
+use Rattle.mapparts.proofs.Writing.{each_none, each_more, each_stop}
+use Rattle.mapwrite.proofs.Lists.{count_more, count_stop}
 use Rattle.mapwrite.proofs.list.put_list.Goals as goal
 
-pub returns-in_err-put-clause-puts : goal.returns-in_err-put-clause-puts
-unfolding flat_map
-returns-in_err-put-clause-puts g c =
+pub returns-in_err-put : goal.returns-in_err-put
+returns-in_err-put g c =
     let w = g.E.Written.numbers in
-    let xs = c.front-there.result.now in
-    let p : Page = (c.args.writer.now.at, c.args.writer.now.bytes.now) in
-    let h : refuse (number_of c.in_err-put.field-0.0) ≡ put_all (listed w (take c.args.count c.args.items.now)) p
-    = put_stop (first w xs 0) (flat_map w (drop 0 xs)) p _ c.in_err-put.ensures.puts ∙ ap (λ ns. put_all ns p) (first_rest w xs 0 ∙ ap (listed w) c.front-there.ensures) in
+    let v = g.E.Written.value in
+    let p = page_of c.args.writer.now in
+    let h : refuse (number_of c.in_err-put.field-0.0) ≡ put_all (listed w (map v (take c.args.count c.args.items.now))) p
+    = count_stop w v c.front-there.result.now p _ c.in_err-put.ensures.writes.2 ∙ ap (λ xs. put_all (listed w (map v xs)) p) c.front-there.ensures in
     grind (arith, h)
 
-pub returns-in_err-write_to-clause-puts : goal.returns-in_err-write_to-clause-puts
-returns-in_err-write_to-clause-puts g c =
+pub loop-item-init : goal.loop-item-init
+loop-item-init g c =
+    let e = c.in_ok-put.ensures.writes in
+    record { name = e.0; long = e.1; left = count_more g.E.Written.numbers g.E.Written.value c.front-there.result.now _ _ e.2 }
+
+pub returns-in_err-write_to : goal.returns-in_err-write_to
+returns-in_err-write_to g c =
     let w = g.E.Written.numbers in
-    let xs = c.front-there.result.now in
-    let i = c.loop-item.item-index in
-    let x = c.item-item.result in
-    let p : Page = (c.args.writer.now.at, c.args.writer.now.bytes.now) in
-    let h : refuse (number_of c.in_err-write_to.field-0.0) ≡ put_all (listed w (take c.args.count c.args.items.now)) p
-    = put_stop (first w xs i ++ w x) (flat_map w (drop (i + 1) xs)) p _ (c.in_err-write_to.ensures.puts ∙ put_more (first w xs i) (w x) p _ c.loop-item.invariant.2)
-    ∙ ap (λ ns. put_all ns p) (ap (λ l. l ++ flat_map w (drop (i + 1) xs)) (first_more w xs i x c.loop-item-test.true (sym c.item-item.is)) ∙ first_rest w xs (i + 1) ∙ ap (listed w) c.front-there.ensures) in
+    let v = g.E.Written.value in
+    let L = c.loop-item in
+    let p = page_of c.args.writer.now in
+    let h : refuse (number_of c.in_err-write_to.field-0.0) ≡ put_all (listed w (map v (take c.args.count c.args.items.now))) p
+    = each_stop w v c.front-there.result.now L.item-index _ _ c.loop-item-test.true (sym c.item-item.is) _ _ c.in_err-write_to.ensures.2 ∙ L.invariant.left ∙ ap (λ xs. put_all (listed w (map v xs)) p) c.front-there.ensures in
     grind (arith, h)
 
 pub loop-item-preserved : goal.loop-item-preserved
 loop-item-preserved g c =
-    let w = g.E.Written.numbers in
-    let xs = c.front-there.result.now in
-    let i = c.loop-item.item-index in
-    let x = c.item-item.result in
-    let p : Page = (c.args.writer.now.at, c.args.writer.now.bytes.now) in
-    (c.in_ok-write_to.ensures.same.0 ∙ c.loop-item.invariant.0, c.in_ok-write_to.ensures.same.1 ∙ c.loop-item.invariant.1, c.in_ok-write_to.ensures.puts ∙ put_more (first w xs i) (w x) p _ c.loop-item.invariant.2 ∙ ap (λ ns. put_all ns p) (first_more w xs i x c.loop-item-test.true (sym c.item-item.is)))
+    let L = c.loop-item in
+    let e = c.in_ok-write_to.ensures in
+    record {
+      name = e.0 ∙ L.invariant.name;
+      long = e.1 ∙ L.invariant.long;
+      left = each_more g.E.Written.numbers g.E.Written.value c.front-there.result.now L.item-index _ _ c.loop-item-test.true (sym c.item-item.is) _ _ e.2 ∙ L.invariant.left;
+    }
 
-pub returns-clause-puts : goal.returns-clause-puts
-returns-clause-puts g c =
+pub returns : goal.returns
+returns g c =
     let w = g.E.Written.numbers in
-    let p : Page = (c.args.writer.now.at, c.args.writer.now.bytes.now) in
-    c.loop-item.invariant.2 ∙ ap (λ ns. put_all ns p) (first_all w c.front-there.result.now c.loop-item.item-index c.loop-item-test.false ∙ ap (listed w) c.front-there.ensures)
-
-pub loop-item-init : goal.loop-item-init
-unfolding flat_map
-loop-item-init g c = (c.in_ok-put.ensures.same.0, c.in_ok-put.ensures.same.1, c.in_ok-put.ensures.puts)
+    let v = g.E.Written.value in
+    let L = c.loop-item in
+    (L.invariant.name, L.invariant.long, sym (each_none w v c.front-there.result.now L.item-index _ c.loop-item-test.false) ∙ L.invariant.left ∙ ap (λ xs. put_all (listed w (map v xs)) (page_of c.args.writer.now)) c.front-there.ensures)

@@ -1,3 +1,4 @@
+-- The first i are changed, and the others are as they were.
 use Rattle.keypairs.specs.View.{tracker_by, broke}
 use Rattle.std.proofs.Common.{◌≡◌, length}
 use Rattle.keypairs.proofs.Lists.{Changed}

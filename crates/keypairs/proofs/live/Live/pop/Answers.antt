@@ -3,11 +3,8 @@ use Rattle.std.proofs.Common.{◌≡◌, ◌++◌, ◌-◌, ◌≤◌, length, t
 use lib.Seq.{get_or-take, take_at}
 use lib.ListN.{length-take}
 use Rattle.keypairs.specs.View.{machine_by}
-use Rattle.keypairs.proofs.Calls.{shifted, pop_none, pop_some}
+use Rattle.keypairs.proofs.Calls.{shifted, pop_some}
 use Rattle.keypairs.proofs.live.Live.pop.Goals as goal
-
-pub returns-then-waiting-eq0 : goal.returns-then-waiting-eq0
-returns-then-waiting-eq0 c gr ks t = pop_none (machine_by gr ks t c.args.self.now) _ refl (ap length (sym c.waiting-waiting.ensures) ∙ c.if-waiting-eq0.true)
 
 pub returns : goal.returns
 returns c gr ks t = let s = c.args.self.now in let k = s.state.queued in let w = c.waiting-waiting in let n = length w.result.now in

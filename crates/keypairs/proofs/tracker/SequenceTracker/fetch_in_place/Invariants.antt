@@ -1,3 +1,4 @@
+-- The first i are changed, and the others are as they were.
 use Rattle.rules.specs.KeyLoop as key
 use Rattle.keypairs.specs.View.{pair_of, over_of}
 use Rattle.keypairs.proofs.Lists.{Changed}

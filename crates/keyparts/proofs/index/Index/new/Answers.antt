@@ -1,23 +1,23 @@
 -- The loop: the links lead to the edges from a place on. It begins with no edge and ends with all.
-use Prim.Native.Nat.{◌-◌, ◌<◌, ◌≤◌, suc}
-use mathlib.Core.Path.{◌≡◌, subst}
+use mathlib.Core.Path.{◌≡◌, subst, ◌∙◌}
+use mathlib.Core.List.{[], append-nil}
 use native.Mathlib.Omega.{arith}
 use lib.ListN.{length}
 use Rattle.keyparts.specs.View.{edge_words}
-use Rattle.keyparts.proofs.Links.{edges_short, Linked, linked_none, linked_more, linked_all}
+use Rattle.keyparts.proofs.Links.{edges_short, Linked, linked_none, linked_next, linked_all}
 use Rattle.keyparts.proofs.index.Index.new.Goals as goal
 
 pub loop-place-init : goal.loop-place-init
-loop-place-init c = let g = c.args.graph.now in rw c.edge_words-words.ensures (linked_none (edge_words g) (edges_short g))
+loop-place-init c = let g = c.args.graph.now in
+    rw (c.into_iter-place-iterator.ensures.into_iter_gives, c.rev-place-items.ensures.source, c.enumerate.ensures.source, c.iter.ensures.rest, c.edge_words.ensures.words)
+    (c.enumerate.ensures.count, ([], append-nil (edge_words g)), linked_none (edge_words g) (edges_short g))
 
 pub loop-place-preserved : goal.loop-place-preserved
-loop-place-preserved c = let g = c.args.graph.now in let l = c.loop-place in
-    let i : l.place ≡ suc (l.place - 1) = omega (arith, c.loop-place-test.true) in
-    let m : l.place ≤ length (edge_words g) = rw c.edge_words-words.ensures at l.auto.place in
-    let k : l.place - 1 < length (edge_words g) = omega (arith, c.loop-place-test.true) in
-    rw (c.link.ensures, c.edge_words-words.ensures) (linked_more (edge_words g) (edges_short g) l.index.links (l.place - 1) (subst (Linked (edge_words g) (edges_short g) l.index.links) i l.invariant) k)
+loop-place-preserved c = let g = c.args.graph.now in let l = c.loop-place in let s = c.in-Some.ensures.steps in
+    let at : c.in-Some.place ≡ length c.next.new.self.iter.iter.rest.now = omega (arith, s.1.1, l.invariant.0) in
+    let e = linked_next (edge_words g) (edges_short g) l.index.links c.next.new.self.iter.iter.rest.now l.invariant.1.0 c.in-Some.word.now (rw s.1.0 at l.invariant.1.1) (rw s.1.0 at l.invariant.2) in
+    (s.0 ∙ l.invariant.0, (_, e.0), rw (c.link.ensures, c.key.ensures, at) e.1)
 
 pub returns : goal.returns
 returns c = let g = c.args.graph.now in let l = c.loop-place in
-    let z : l.place ≡ 0 = omega (arith, c.loop-place-test.false) in
-    linked_all (edge_words g) (edges_short g) l.index.links (subst (Linked (edge_words g) (edges_short g) l.index.links) z l.invariant)
+    linked_all (edge_words g) (edges_short g) l.index.links (subst (Linked (edge_words g) (edges_short g) l.index.links) c.in-None.ensures.steps.1.0 l.invariant.2)

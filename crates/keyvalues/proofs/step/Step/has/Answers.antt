@@ -6,4 +6,4 @@ use Rattle.keyvalues.proofs.step.Step.has.Goals as goal
 
 pub returns : goal.returns
 unfolding step_of
-returns c = let a = c.args.action in rw c.front.ensures at (c.contains.ensures.value) ∙ some_found a _
+returns c = let a = c.args.action in rw c.list.ensures.0 at (c.contains.ensures.value) ∙ some_found a _

@@ -3,29 +3,29 @@ use native.Mathlib.Omega.{arith}
 use Rattle.mapparts.proofs.NumberBy.{none, one, one_short, two_zero, two, two_short, three_zero, three, three_over}
 use Rattle.mapparts.proofs.reader.Reader.number.Goals as goal
 
-pub returns-in_err-b : goal.returns-in_err-b
-returns-in_err-b c = let h = none _ c.in_err-b.ensures.1 in grind (arith, h)
+pub returns-in_err-b-clause-reads : goal.returns-in_err-b-clause-reads
+returns-in_err-b-clause-reads c = let h = none _ c.in_err-b.ensures.1 in grind (arith, h)
 
-pub returns-then-b-lt128 : goal.returns-then-b-lt128
-returns-then-b-lt128 c = one _ _ _ c.in_ok-b.ensures.1 c.if-b-lt128.true
+pub returns-then-b-lt128-clause-reads : goal.returns-then-b-lt128-clause-reads
+returns-then-b-lt128-clause-reads c = one _ _ _ c.in_ok-b.ensures.1 c.if-b-lt128.true
 
-pub returns-in_err-c : goal.returns-in_err-c
-returns-in_err-c c = let h = one_short _ _ _ c.in_ok-b.ensures.1 c.if-b-lt128.false c.in_ok-b.ensures.0 c.in_err-c.ensures.1 in grind (arith, h)
+pub returns-in_err-c-clause-reads : goal.returns-in_err-c-clause-reads
+returns-in_err-c-clause-reads c = let h = one_short _ _ _ c.in_ok-b.ensures.1 c.if-b-lt128.false c.in_ok-b.ensures.0 c.in_err-c.ensures.1 in grind (arith, h)
 
-pub returns-then-c-eq0 : goal.returns-then-c-eq0
-returns-then-c-eq0 c = two_zero _ _ _ c.in_ok-b.ensures.1 c.if-b-lt128.false c.in_ok-b.ensures.0 _ _ c.in_ok-c.ensures.1 c.if-c-eq0.true
+pub returns-then-c-eq0-clause-reads : goal.returns-then-c-eq0-clause-reads
+returns-then-c-eq0-clause-reads c = two_zero _ _ _ c.in_ok-b.ensures.1 c.if-b-lt128.false c.in_ok-b.ensures.0 _ _ c.in_ok-c.ensures.1 c.if-c-eq0.true
 
-pub returns-then-c-lt128 : goal.returns-then-c-lt128
-returns-then-c-lt128 c = two _ _ _ c.in_ok-b.ensures.1 c.if-b-lt128.false c.in_ok-b.ensures.0 _ _ c.in_ok-c.ensures.1 c.if-c-eq0.false c.if-c-lt128.true
+pub returns-then-c-lt128-clause-reads : goal.returns-then-c-lt128-clause-reads
+returns-then-c-lt128-clause-reads c = two _ _ _ c.in_ok-b.ensures.1 c.if-b-lt128.false c.in_ok-b.ensures.0 _ _ c.in_ok-c.ensures.1 c.if-c-eq0.false c.if-c-lt128.true
 
-pub returns-in_err-d : goal.returns-in_err-d
-returns-in_err-d c = let h = two_short _ _ _ c.in_ok-b.ensures.1 c.if-b-lt128.false c.in_ok-b.ensures.0 _ _ c.in_ok-c.ensures.1 c.if-c-lt128.false c.in_ok-c.ensures.0 c.in_err-d.ensures.1 in grind (arith, h)
+pub returns-in_err-d-clause-reads : goal.returns-in_err-d-clause-reads
+returns-in_err-d-clause-reads c = let h = two_short _ _ _ c.in_ok-b.ensures.1 c.if-b-lt128.false c.in_ok-b.ensures.0 _ _ c.in_ok-c.ensures.1 c.if-c-lt128.false c.in_ok-c.ensures.0 c.in_err-d.ensures.1 in grind (arith, h)
 
-pub returns-then-d-eq0 : goal.returns-then-d-eq0
-returns-then-d-eq0 c = three_zero _ _ _ c.in_ok-b.ensures.1 c.if-b-lt128.false c.in_ok-b.ensures.0 _ _ c.in_ok-c.ensures.1 c.if-c-lt128.false c.in_ok-c.ensures.0 _ _ c.in_ok-d.ensures.1 c.if-d-eq0.true
+pub returns-then-d-eq0-clause-reads : goal.returns-then-d-eq0-clause-reads
+returns-then-d-eq0-clause-reads c = three_zero _ _ _ c.in_ok-b.ensures.1 c.if-b-lt128.false c.in_ok-b.ensures.0 _ _ c.in_ok-c.ensures.1 c.if-c-lt128.false c.in_ok-c.ensures.0 _ _ c.in_ok-d.ensures.1 c.if-d-eq0.true
 
-pub returns-then-d-ge4 : goal.returns-then-d-ge4
-returns-then-d-ge4 c = three_over _ _ _ c.in_ok-b.ensures.1 c.if-b-lt128.false c.in_ok-b.ensures.0 _ _ c.in_ok-c.ensures.1 c.if-c-lt128.false c.in_ok-c.ensures.0 _ _ c.in_ok-d.ensures.1 c.if-d-ge4.true
+pub returns-then-d-ge4-clause-reads : goal.returns-then-d-ge4-clause-reads
+returns-then-d-ge4-clause-reads c = three_over _ _ _ c.in_ok-b.ensures.1 c.if-b-lt128.false c.in_ok-b.ensures.0 _ _ c.in_ok-c.ensures.1 c.if-c-lt128.false c.in_ok-c.ensures.0 _ _ c.in_ok-d.ensures.1 c.if-d-ge4.true
 
-pub returns : goal.returns
-returns c = three _ _ _ c.in_ok-b.ensures.1 c.if-b-lt128.false c.in_ok-b.ensures.0 _ _ c.in_ok-c.ensures.1 c.if-c-lt128.false c.in_ok-c.ensures.0 _ _ c.in_ok-d.ensures.1 c.if-d-eq0.false c.if-d-ge4.false
+pub returns-clause-reads : goal.returns-clause-reads
+returns-clause-reads c = three _ _ _ c.in_ok-b.ensures.1 c.if-b-lt128.false c.in_ok-b.ensures.0 _ _ c.in_ok-c.ensures.1 c.if-c-lt128.false c.in_ok-c.ensures.0 _ _ c.in_ok-d.ensures.1 c.if-d-eq0.false c.if-d-ge4.false

@@ -1,7 +1,0 @@
--- That links are those of an index is true in one way at most.
-use Rattle.std.specs.Prelude.{ℕ, List}
-use Rattle.std.proofs.Props.{props}
-use Rattle.keyparts.specs.View.{Indexed}
-
-pub Indexed-prop : (ws ls : List ℕ) → IsProp (Indexed ws ls)
-Indexed-prop ws ls = hlevel props
