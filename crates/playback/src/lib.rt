@@ -14,7 +14,7 @@ mod put;
 mod tests;
 mod text;
 
-pub use input::read_input;
+pub use input::{read_full, read_input};
 pub use program::serve;
 use std::io;
 use std::io::Write;
