@@ -121,17 +121,17 @@ module _ (xs ys : List ℕ) (p : Page) where
   pub place_stop : (n : ℕ) → refuse n ≡ placed xs p → refuse n ≡ placed (xs ++ ys) p
   place_stop n e = ap (λ r. r >>= placed ys) e ∙ placed_append xs ys p.0 p.1
 
--- numbers behind a page that was reached
-unfoldable pub then_put : Result Page → List ℕ → Result Page
-then_put r ns = r >>= put_all ns
+-- bytes, or numbers, behind a page that was reached
+unfoldable pub then_put : (List ℕ → Page → Result Page) → Result Page → List ℕ → Result Page
+then_put put r ns = r >>= put ns
 
-pub then_on : (q : Page) (ns : List ℕ) → then_put (accept q) ns ≡ put_all ns q
+pub then_on : (put : List ℕ → Page → Result Page) (q : Page) (ns : List ℕ) → then_put put (accept q) ns ≡ put ns q
 unfolding then_put
-then_on q ns = refl
+then_on put q ns = refl
 
-pub then_stop : (k : ℕ) (ns : List ℕ) → then_put (refuse k) ns ≡ refuse k
+pub then_stop : (put : List ℕ → Page → Result Page) (k : ℕ) (ns : List ℕ) → then_put put (refuse k) ns ≡ refuse k
 unfolding then_put
-then_stop k ns = refl
+then_stop put k ns = refl
 
 pub put_none : (p : Page) → put_all [] p ≡ accept p
 unfolding put_all
@@ -145,7 +145,7 @@ put_one n p = go (placed (bytes_of n) p)
     go (accept q) = refl
     go (refuse k) = refl
 
-pub put_first : (n : ℕ) (ns : List ℕ) (p : Page) → put_all (n ∷ ns) p ≡ then_put (put_all (n ∷ []) p) ns
+pub put_first : (n : ℕ) (ns : List ℕ) (p : Page) → put_all (n ∷ ns) p ≡ then_put put_all (put_all (n ∷ []) p) ns
 unfolding put_all then_put
 put_first n ns p = go (placed (bytes_of n) p)
   where
@@ -153,12 +153,12 @@ put_first n ns p = go (placed (bytes_of n) p)
     go (accept q) = refl
     go (refuse k) = refl
 
-pub put_append : (xs ys : List ℕ) (p : Page) → put_all (xs ++ ys) p ≡ then_put (put_all xs p) ys
+pub put_append : (xs ys : List ℕ) (p : Page) → put_all (xs ++ ys) p ≡ then_put put_all (put_all xs p) ys
 unfolding put_all then_put
 put_append [] ys p = refl
 put_append (x ∷ xs) ys p = go (placed (bytes_of x) p) (λ q. put_append xs ys q)
   where
-    go : (r : Result Page) → ((q : Page) → put_all (xs ++ ys) q ≡ then_put (put_all xs q) ys) → (r >>= put_all (xs ++ ys)) ≡ (r >>= put_all xs >>= put_all ys)
+    go : (r : Result Page) → ((q : Page) → put_all (xs ++ ys) q ≡ then_put put_all (put_all xs q) ys) → (r >>= put_all (xs ++ ys)) ≡ (r >>= put_all xs >>= put_all ys)
     go (accept q) h = h q
     go (refuse k) h = refl
 
@@ -179,16 +179,16 @@ module _ {A B : Type 0} (w : B → List ℕ) (v : A → B) (xs : List A) where
     unfolding flat_map
     next = rw (drop-cons xs i d h, e, add-one i) refl
 
-    behind_next : (p : Page) → put_all (from i) p ≡ then_put (put_all (w (v x)) p) (from (i + 1))
+    behind_next : (p : Page) → put_all (from i) p ≡ then_put put_all (put_all (w (v x)) p) (from (i + 1))
     behind_next p = ap (λ ns. put_all ns p) next ∙ put_append (w (v x)) (from (i + 1)) p
 
     pub each_more : (p q : Page) → accept q ≡ put_all (w (v x)) p → put_all (from (i + 1)) q ≡ put_all (from i) p
     unfolding then_put
-    each_more p q k = ap (λ r. then_put r (from (i + 1))) k ∙ sym (behind_next p)
+    each_more p q k = ap (λ r. then_put put_all r (from (i + 1))) k ∙ sym (behind_next p)
 
     pub each_stop : (n : ℕ) (p : Page) → refuse n ≡ put_all (w (v x)) p → refuse n ≡ put_all (from i) p
     unfolding then_put
-    each_stop n p k = ap (λ r. then_put r (from (i + 1))) k ∙ sym (behind_next p)
+    each_stop n p k = ap (λ r. then_put put_all r (from (i + 1))) k ∙ sym (behind_next p)
 
 -- all of them at once
 pub put_placed : (n : ℕ) (ns : List ℕ) (at : ℕ) (out : List ℕ) → put_all (n ∷ ns) (at, out) ≡ placed (in_bytes (n ∷ ns)) (at, out)

@@ -27,7 +27,7 @@ module _ (t : Tables) (xs : List Binding) (out : List ℕ) where
   bs = write_map t xs
 
   -- the tables, and the calls behind them
-  pub map_placed : placed (write_map t xs) (0, out) ≡ then_put (put_all (tables_numbers t) (0, out)) (listed binding_numbers xs)
+  pub map_placed : placed (write_map t xs) (0, out) ≡ then_put put_all (put_all (tables_numbers t) (0, out)) (listed binding_numbers xs)
   unfolding map_numbers tables_numbers listed write_map
   map_placed = sym (put_placed _ _ 0 out) ∙ put_append (tables_numbers t) (listed binding_numbers xs) (0, out)
 
@@ -35,7 +35,7 @@ module _ (t : Tables) (xs : List Binding) (out : List ℕ) where
   pub sent_length : (p q : Page) → accept p ≡ put_all (tables_numbers t) (0, out) → accept q ≡ put_all (listed binding_numbers xs) p → (q.0 ≡ length bs) × (q.0 ≤ length out)
   unfolding then_put
   sent_length p q e k =
-      let f = fitted bs 0 out q (k ∙ ap (λ r. then_put r (listed binding_numbers xs)) e ∙ sym map_placed) in
+      let f = fitted bs 0 out q (k ∙ ap (λ r. then_put put_all r (listed binding_numbers xs)) e ∙ sym map_placed) in
       let g : q.0 ≡ 0 + length bs = ap (λ (p : Page). p.0) f.1 in
       (omega (arith, g), omega (arith, g, f.0))
 

@@ -7,50 +7,39 @@ use Rattle.rules.specs.Basics.{Result, accept, refuse, ◌>>=◌}
 use Rattle.rules.specs.Values.{Pair, pair}
 use Rattle.rules.specs.Run.{decimal, line_of, lines_of, heading, refusal, text_of}
 use Rattle.mapparts.specs.View.{Page, placed}
-use Rattle.mapparts.proofs.Writing.{placed_append}
+use Rattle.mapparts.proofs.Writing.{placed_append, then_put, then_on, then_stop}
 
-unfoldable pub then_placed : Result Page → List ℕ → Result Page
-then_placed r bs = r >>= placed bs
-
-pub placed_on : (q : Page) (bs : List ℕ) → then_placed (accept q) bs ≡ placed bs q
-unfolding then_placed
-placed_on q bs = refl
-
-pub placed_stop : (n : ℕ) (bs : List ℕ) → then_placed (refuse n) bs ≡ refuse n
-unfolding then_placed
-placed_stop n bs = refl
-
-joined : (xs ys : List ℕ) (p : Page) → placed (xs ++ ys) p ≡ then_placed (placed xs p) ys
-unfolding then_placed
+joined : (xs ys : List ℕ) (p : Page) → placed (xs ++ ys) p ≡ then_put placed (placed xs p) ys
+unfolding then_put
 joined xs ys p = sym (placed_append xs ys p.0 p.1)
 
-pub column_parts : (v : ℕ) (p : Page) → placed (0x20 ∷ decimal 5 v) p ≡ then_placed (placed (0x20 ∷ []) p) (decimal 5 v)
+pub column_parts : (v : ℕ) (p : Page) → placed (0x20 ∷ decimal 5 v) p ≡ then_put placed (placed (0x20 ∷ []) p) (decimal 5 v)
 column_parts v p = joined (0x20 ∷ []) (decimal 5 v) p
 
-pub line_parts : (a c m : ℕ) (p : Page) → placed (line_of (pair a c m)) p ≡ then_placed (then_placed (then_placed (placed (decimal 5 a) p) (0x20 ∷ decimal 5 c)) (0x20 ∷ decimal 5 m)) (0x0A ∷ [])
+pub line_parts : (a c m : ℕ) (p : Page) → placed (line_of (pair a c m)) p ≡ then_put placed (then_put placed (then_put placed (placed (decimal 5 a) p) (0x20 ∷ decimal 5 c)) (0x20 ∷ decimal 5 m)) (0x0A ∷ [])
 unfolding line_of
 line_parts a c m p =
     let x : List ℕ = decimal 5 a in
     let y : List ℕ = 0x20 ∷ decimal 5 c in
     let z : List ℕ = 0x20 ∷ decimal 5 m in
     joined (x ++ y ++ z) (0x0A ∷ []) p
-    ∙ ap (λ r. then_placed r (0x0A ∷ [])) (joined (x ++ y) z p ∙ ap (λ r. then_placed r z) (joined x y p))
+    ∙ ap (λ r. then_put placed r (0x0A ∷ [])) (joined (x ++ y) z p ∙ ap (λ r. then_put placed r z) (joined x y p))
 
 -- the bytes "refused "
 abbrev word : List ℕ
 word = 0x72 ∷ 0x65 ∷ 0x66 ∷ 0x75 ∷ 0x73 ∷ 0x65 ∷ 0x64 ∷ 0x20 ∷ []
 
-pub refusal_parts : (k : ℕ) (p : Page) → placed (refusal k) p ≡ then_placed (then_placed (placed word p) (decimal 5 k)) (0x0A ∷ [])
+pub refusal_parts : (k : ℕ) (p : Page) → placed (refusal k) p ≡ then_put placed (then_put placed (placed word p) (decimal 5 k)) (0x0A ∷ [])
 unfolding refusal
-refusal_parts k p = joined (word ++ decimal 5 k) (0x0A ∷ []) p ∙ ap (λ r. then_placed r (0x0A ∷ [])) (joined word (decimal 5 k) p)
+refusal_parts k p = joined (word ++ decimal 5 k) (0x0A ∷ []) p ∙ ap (λ r. then_put placed r (0x0A ∷ [])) (joined word (decimal 5 k) p)
 
 -- the bytes of the heading
 abbrev pub title : List ℕ
 title = 0x61 ∷ 0x63 ∷ 0x74 ∷ 0x69 ∷ 0x6F ∷ 0x6E ∷ 0x20 ∷ 0x63 ∷ 0x6F ∷ 0x75 ∷ 0x6E ∷ 0x74 ∷ 0x20 ∷ 0x6D ∷ 0x61 ∷ 0x72 ∷ 0x6B ∷ 0x0A ∷ []
 
-pub text_parts : (ps : List Pair) (p : Page) → placed (text_of (accept ps)) p ≡ then_placed (placed title p) (lines_of ps)
+pub text_parts : (ps : List Pair) (p : Page) → placed (text_of (accept ps)) p ≡ then_put placed (placed title p) (lines_of ps)
 unfolding text_of heading
 text_parts ps p = joined title (lines_of ps) p
 
 -- what is put by one call behind another
-pub ruleset parts_placed = (placed_on, placed_stop, column_parts, line_parts, refusal_parts, text_parts)
+pub ruleset parts_placed = (then_on, then_stop, column_parts, line_parts, refusal_parts, text_parts)
