@@ -47,9 +47,9 @@ extern "C" {
  * examples/stack.c, which measures it; that is no proof of a bound:
  *
  *     keymap_size          1 KiB
- *     keymap_open        201 KiB
- *     keymap_bind        119 KiB
- *     keymap_key          16 KiB
+ *     keymap_open        202 KiB
+ *     keymap_bind        121 KiB
+ *     keymap_key          20 KiB
  *     keymap_pop           3 KiB
  *     keymap_repeat        3 KiB
  *     keymap_repeat_over   3 KiB
@@ -58,7 +58,7 @@ extern "C" {
  *     keymap_find          1 KiB
  *     keymap_free          1 KiB
  *     keymap_write         3 KiB
- *     keymap_run         220 KiB
+ *     keymap_run         222 KiB
  *
  * examples/stack.c also holds a key, a pop and a reset to 32 KiB, the run to 256 KiB and every call to 384 KiB, on any
  * processor that it is built for.

@@ -6,13 +6,8 @@ use crate::timing::{clock, compare, Times};
 
 extern "C" {
     fn bench_index(graph: *const Graph, links: *mut [u16; LINKS]);
-    fn bench_follow(
-        graph: *const Graph,
-        links: *const [u16; LINKS],
-        tables: *const Tables,
-        node: u16,
-        key: u16,
-    ) -> u16;
+    fn bench_follow(graph: *const Graph, links: *const [u16; LINKS], tables: *const Tables, node: u16, key: u16)
+        -> u16;
     fn bench_add_in_place(n: u16) -> u16;
     fn bench_add_by_value(n: u16) -> u16;
 }
@@ -22,7 +17,7 @@ const EDGES: usize = 2_048;
 const NODES: usize = 1_040;
 
 /// How many links an index has.
-const LINKS: usize = 2_304;
+const LINKS: usize = 3_328;
 
 /// How many classes the tables have room for, and how many words stand behind these.
 const CLASSES: usize = 16;
@@ -76,7 +71,8 @@ struct Edges {
 
 impl Edges {
     fn new(edges: &[u64]) -> Self {
-        let mut graph = Graph { edges: [0; EDGES], nodes: [[0; 2]; NODES], node_count: 0, edge_count: edges.len() as u16 };
+        let mut graph =
+            Graph { edges: [0; EDGES], nodes: [[0; 2]; NODES], node_count: 0, edge_count: edges.len() as u16 };
         graph.edges[..edges.len()].copy_from_slice(edges);
         let mut links = [0; LINKS];
         unsafe { bench_index(&graph, &mut links) };

@@ -4,11 +4,14 @@
 mod archive;
 #[path = "../src/bytes.rs"]
 mod bytes;
+#[path = "../src/chains.rs"]
+mod chains;
 mod graph;
 mod inputs;
 mod maps;
 mod original;
 mod ours;
+mod spread;
 mod stack;
 #[path = "../src/status.rs"]
 mod status;
@@ -21,6 +24,7 @@ use std::time::Duration;
 use inputs::{keys_of, kinds_of, map_of, put_numbers, Map, SEED};
 use original::Original;
 use ours::lent::Lent;
+use spread::Spread;
 use sum::Sum;
 use timing::{clock, compare, rounds, Times};
 
@@ -296,6 +300,11 @@ fn ms(times: Times) -> String {
     format!("{:.3} ({:.3})", times.best / 1e6, times.median / 1e6)
 }
 
+/// Nanoseconds that a map may take to be read.
+fn most_reading(bytes: &[u8]) -> f64 {
+    20e6 * (bytes.len() as f64 / 60e3).max(1.0)
+}
+
 /// Milliseconds to read a map: a run without keys, and the opening of a lent machine.
 fn reading_rows(works: &[Work]) {
     println!("| map | bytes | keymap_run, ms | keymap_open, ms | at most 20 ms for 60,000 bytes |");
@@ -323,7 +332,7 @@ fn reading_rows(works: &[Work]) {
             },
         ]);
         let (run, open) = (run.each(often), open.each(often));
-        let most = 20e6 * (bytes.len() as f64 / 60e3).max(1.0);
+        let most = most_reading(&bytes);
         let met = target(run.best <= most && open.best <= most);
         println!("| {what} | {} | {} | {} | {met} |", bytes.len(), ms(run), ms(open));
     }
@@ -360,6 +369,70 @@ fn writing_rows(works: &[Work]) {
         let (write, refused) = (write.each(often), refused.each(often));
         let met = target(write.best <= 1e6 && refused.best <= 1e6);
         println!("| {what} | {} | {} | {} | {met} |", bytes.len(), ms(write), ms(refused));
+    }
+}
+
+/// The time of a run that must be accepted and give no pair.
+fn time_silent(map: &Spread, tape: &[u8]) -> Duration {
+    let mut output = vec![0; ROOM];
+    clock(|| {
+        let result = black_box(ours::run(&map.bytes, tape, &mut output));
+        assert_eq!(result, 0, "{}: refused, or a key is not the map's own", map.what);
+    })
+}
+
+/// Nanoseconds to read a map, and of each of its keys; then the same of the usual map beside it.
+fn spread_times(map: &Spread, usual: &Spread) -> [(Times, Times); 2] {
+    let tapes = [map, usual].map(|m| m.tape(RUN_KEYS));
+    let [reading, run, usual_reading, usual_run] = compare([
+        &mut || time_silent(map, &[]),
+        &mut || time_silent(map, &tapes[0]),
+        &mut || time_silent(usual, &[]),
+        &mut || time_silent(usual, &tapes[1]),
+    ]);
+    [(reading, run), (usual_reading, usual_run)].map(|(reading, run)| (reading, run.less(reading).each(RUN_KEYS)))
+}
+
+/// Maps that show how the index spreads their edges, beside usual maps of as many bindings.
+fn spread_rows(_: &[Work]) {
+    println!(
+        "| map | bindings | bytes | read, ms | at most 20 ms for 60,000 bytes | ns a key | usual | at most twice it |"
+    );
+    println!("|---|---|---|---|---|---|---|---|");
+    spread::all().iter().for_each(spread_row);
+    loop_rows();
+}
+
+fn spread_row(map: &Spread) {
+    let [(reading, key), (_, usual)] = spread_times(map, &spread::usual(map.bindings, map.modes));
+    let verdict = |met: bool| if map.targeted { target(met) } else { "no target" };
+    println!(
+        "| {} | {} | {} | {} | {} | {} | {} | {:.2}, {} |",
+        map.what,
+        map.bindings,
+        map.bytes.len(),
+        ms(reading),
+        verdict(reading.best <= most_reading(&map.bytes)),
+        tenths(key),
+        tenths(usual),
+        key.best / usual.best,
+        verdict(key.best <= 2.0 * usual.best)
+    );
+}
+
+/// One key that goes round until the largest budget is used up. Refused, it leaves the machine as it was.
+fn loop_rows() {
+    const MOST: u16 = 65_535;
+    const USED_UP: u64 = MOST as u64 * 32 + 8;
+    println!(
+        "\n| map with 16 entries of one class, and one key of 65,535 rounds | bindings | bytes | ms | ns a round |"
+    );
+    println!("|---|---|---|---|---|");
+    for map in spread::loops() {
+        let mut machine = Lent::open(&map.bytes);
+        let [key] = compare([&mut || clock(|| assert_eq!(machine.key(map.keys[0], MOST), USED_UP))]);
+        let each = tenths(key.each(MOST.into()));
+        println!("| {} | {} | {} | {} | {each} |", map.what, map.bindings, map.bytes.len(), ms(key));
     }
 }
 
@@ -469,12 +542,13 @@ fn write_stack_rows(row: impl Fn(&str, usize)) {
 /// The sections' names, heads and tables. A name as argument gives that section alone.
 type Section = (&'static str, &'static str, fn(&[Work]));
 
-const SECTIONS: [Section; 7] = [
+const SECTIONS: [Section; 8] = [
     ("keys", "Keys, ns each; target: ratio at most 0.5 at 10 to 200 bindings", key_rows),
     ("kinds", "Kinds of keys, ns each", kind_rows),
     ("calls", "Calls by value and lent", call_rows),
     ("reading", "Reading a map", reading_rows),
     ("writing", "Writing a map", writing_rows),
+    ("spread", "Keys over the chains of the index", spread_rows),
     ("graph", "The key graph", graph_rows),
     ("stack", "Stack", stack_rows),
 ];

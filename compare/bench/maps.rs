@@ -6,32 +6,49 @@ use crate::inputs::{map_of, put_numbers, SEED};
 pub const LARGE: usize = 60_000;
 
 /// A machine keeps no more binding calls, so a map has no more.
-const KEPT: u16 = 1024;
+pub const KEPT: u16 = 1024;
 
-const MAPPING: u16 = 0;
-const PREFIX: u16 = 1;
+pub const MAPPING: u16 = 0;
+pub const PREFIX: u16 = 1;
 
 /// A key that takes three bytes.
 const WIDE: u16 = 20_000;
 
 /// (repeat, event) as numbers of a map file.
-type Part = Vec<u16>;
+pub type Part = Vec<u16>;
 
-fn once_key(k: u16) -> Part {
+pub fn once_key(k: u16) -> Part {
     vec![0, 0, k]
 }
 
-fn once_any() -> Part {
+pub fn once_class(c: u16) -> Part {
+    vec![0, 1, c]
+}
+
+pub fn once_any() -> Part {
     vec![0, 2]
 }
 
-fn max_key(n: u16, k: u16) -> Part {
+pub fn once_fall() -> Part {
+    vec![0, 3]
+}
+
+pub fn max_key(n: u16, k: u16) -> Part {
     vec![2, n, 0, k]
+}
+
+pub fn max_class(n: u16, class: u16) -> Part {
+    vec![2, n, 1, class]
 }
 
 /// A binding's numbers, in mode 0.
 fn binding(kind: u16, path: &[Part], step: &[u16]) -> Vec<u16> {
-    let mut numbers = vec![kind, 0, path.len() as u16];
+    binding_in(0, kind, path, step)
+}
+
+/// A binding's numbers.
+pub fn binding_in(mode: u16, kind: u16, path: &[Part], step: &[u16]) -> Vec<u16> {
+    let mut numbers = vec![kind, mode, path.len() as u16];
     numbers.extend(path.iter().flatten());
     numbers.extend(step);
     numbers

@@ -148,6 +148,11 @@ pub mod lent {
             unsafe { keymap_free(self.0.as_ptr()) }
         }
 
+        /// One key, whose pairs stay: the rounds made, times 32, and the refusal.
+        pub fn key(&mut self, key: u16, budget: u16) -> u64 {
+            unsafe { keymap_key(self.0.as_mut_ptr(), key, budget) }
+        }
+
         pub fn press(&mut self, keys: &[u16]) -> Sum {
             let mut sum = Sum::default();
             let machine = self.0.as_mut_ptr();

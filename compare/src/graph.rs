@@ -6,6 +6,7 @@ use std::collections::HashMap;
 use std::sync::OnceLock;
 
 use crate::calls::{Call, Event, Part, Repeat, Step, Tables};
+use crate::chains;
 use crate::met::{met, met_if, met_part, Met, Place};
 
 const ROOTS: usize = 16;
@@ -60,17 +61,28 @@ pub enum Follow {
     NoSuccessor,
 }
 
+#[derive(Clone, Copy)]
+struct Edge {
+    to: NodeId,
+    /// For the counts alone: how many edges were made before it, and whether it has had another end.
+    made: usize,
+    replaced: bool,
+}
+
 #[derive(Clone)]
 pub struct Graph {
     nodes: HashMap<NodeId, Node>,
-    edges: HashMap<NodeId, HashMap<Event, NodeId>>,
+    edges: HashMap<NodeId, HashMap<Event, Edge>>,
     edge_count: usize,
+    /// For the counts alone: by chain, how many edges were made before its first edge of a key.
+    first_made: Vec<Option<usize>>,
 }
 
 impl Graph {
     pub fn fresh() -> Self {
         let root = |m| (m, Node { mode: m as u16, action: NodeAction::Root });
-        Graph { nodes: (0..ROOTS).map(root).collect(), edges: HashMap::new(), edge_count: 0 }
+        let nodes = (0..ROOTS).map(root).collect();
+        Graph { nodes, edges: HashMap::new(), edge_count: 0, first_made: vec![None; chains::KEYS] }
     }
 
     pub fn get_node(&self, id: NodeId) -> &Node {
@@ -84,8 +96,8 @@ impl Graph {
 
     /// All edges: start, event and end, in an order that does not depend on the hash maps.
     pub fn edges(&self) -> Vec<(NodeId, Event, NodeId)> {
-        let of = |(&from, ends): (&NodeId, &HashMap<Event, NodeId>)| -> Vec<_> {
-            ends.iter().map(|(&ev, &to)| (from, ev, to)).collect()
+        let of = |(&from, edges): (&NodeId, &HashMap<Event, Edge>)| -> Vec<_> {
+            edges.iter().map(|(&ev, edge)| (from, ev, edge.to)).collect()
         };
         let mut edges: Vec<_> = self.edges.iter().flat_map(of).collect();
         edges.sort();
@@ -119,20 +131,33 @@ impl Graph {
     }
 
     fn add_edge(&mut self, from: NodeId, to: NodeId, ev: Event) -> Outcome<()> {
-        let old = self.get_edge(from, ev);
-        if old.is_none() {
-            if self.edge_count == limits().edges {
-                return Err(3);
-            }
-            self.edge_count += 1;
-        }
-        met_if(old.is_some_and(|end| end != to), Met::EdgeReplaced);
-        self.edges.entry(from).or_default().insert(ev, to);
+        let edge = match self.edge(from, ev) {
+            Some(old) => {
+                met_if(old.to != to, Met::EdgeReplaced);
+                Edge { to, replaced: old.replaced || old.to != to, ..old }
+            },
+            None if self.edge_count == limits().edges => return Err(3),
+            None => self.new_edge(from, to, ev),
+        };
+        self.edges.entry(from).or_default().insert(ev, edge);
         Ok(())
     }
 
-    fn get_edge(&self, from: NodeId, ev: Event) -> Option<NodeId> {
+    fn new_edge(&mut self, from: NodeId, to: NodeId, ev: Event) -> Edge {
+        let made = self.edge_count;
+        self.edge_count += 1;
+        if let Event::Key(key) = ev {
+            self.first_made[chains::of_key(from as u16, key)].get_or_insert(made);
+        }
+        Edge { to, made, replaced: false }
+    }
+
+    fn edge(&self, from: NodeId, ev: Event) -> Option<Edge> {
         self.edges.get(&from)?.get(&ev).copied()
+    }
+
+    fn get_edge(&self, from: NodeId, ev: Event) -> Option<NodeId> {
+        self.edge(from, ev).map(|edge| edge.to)
     }
 
     pub fn has_edges(&self, id: NodeId) -> bool {
@@ -140,6 +165,7 @@ impl Graph {
     }
 
     pub fn follow_edge(&self, tables: &Tables, id: NodeId, key: u16) -> Follow {
+        self.note_followed(tables, id, key);
         let classes = tables.memberships(key).into_iter().map(Event::Class);
         for ev in std::iter::once(Event::Key(key)).chain(classes).chain(std::iter::once(Event::Any)) {
             if let Some(end) = self.get_edge(id, ev) {
@@ -150,6 +176,76 @@ impl Graph {
             Some(end) => Follow::Fallthrough(end),
             None => Follow::NoSuccessor,
         }
+    }
+}
+
+// ---- what following met, for the counts alone
+
+/// The events that an edge for the key may have but the key itself, in their order; a class may be there twice.
+fn other_events(tables: &Tables, key: u16) -> Vec<Event> {
+    let classes = tables.memberships(key).into_iter().map(Event::Class);
+    classes.chain([Event::Any, Event::Fallthrough]).collect()
+}
+
+impl Graph {
+    fn note_followed(&self, tables: &Tables, id: NodeId, key: u16) {
+        let others = other_events(tables, key);
+        let mut edges: Vec<(Event, Edge)> =
+            others.iter().filter_map(|&ev| self.edge(id, ev).map(|edge| (ev, edge))).collect();
+        self.note_others(id, &others, edges.first());
+        if let Some(edge) = self.note_key(id, key) {
+            edges.insert(0, (Event::Key(key), edge));
+        }
+        if let Some((first, behind)) = edges.split_first() {
+            note_order(*first, behind);
+        }
+    }
+
+    /// The node's edge for the key, and whether its chain has edges before it.
+    fn note_key(&self, id: NodeId, key: u16) -> Option<Edge> {
+        let edge = self.edge(id, Event::Key(key));
+        let first = self.first_made[chains::of_key(id as u16, key)];
+        match edge {
+            Some(edge) => met_if(first.is_some_and(|made| made < edge.made), Met::KeyBehindOthers),
+            None => met_if(first.is_some(), Met::NoKeyButOthers),
+        }
+        edge
+    }
+
+    /// Whether a node whose edges are on the same chain has one for the key, too: made before the one that is taken, or alone.
+    /// Fallthrough edges do not count: a Max makes hundreds.
+    fn note_others(&self, id: NodeId, others: &[Event], taken: Option<&(Event, Edge)>) {
+        let alike = (id % chains::ALIKE..self.nodes.len()).step_by(chains::ALIKE).filter(|&node| node != id);
+        let (_, others) = others.split_last().unwrap();
+        let theirs = alike.flat_map(|node| others.iter().filter_map(move |&ev| self.edge(node, ev)));
+        match (theirs.map(|edge| edge.made).min(), taken) {
+            (Some(made), Some((_, edge))) => met_if(made < edge.made, Met::BehindAlike),
+            (Some(_), None) => met(Met::NoneButAlike),
+            _ => {},
+        }
+    }
+}
+
+/// The edge that is taken, and in order those that it goes before.
+fn note_order(taken: (Event, Edge), behind: &[(Event, Edge)]) {
+    let (event, edge) = taken;
+    met_if(edge.replaced, Met::ReplacedTaken);
+    for &(other, Edge { made, .. }) in behind.iter().filter(|(other, _)| *other != event) {
+        met_if(made < edge.made, passed_by(event, other));
+    }
+    met_if(behind.iter().any(|(other, _)| *other == event), Met::ClassTwice);
+}
+
+/// An edge for the one event is taken, and one for the other was made before it.
+fn passed_by(taken: Event, other: Event) -> Met {
+    match (taken, other) {
+        (Event::Key(_), Event::Class(_)) => Met::KeyMadeAfterClass,
+        (Event::Key(_), Event::Any) => Met::KeyMadeAfterAny,
+        (Event::Key(_), _) => Met::KeyMadeAfterFall,
+        (Event::Class(_), Event::Class(_)) => Met::ClassMadeAfterClass,
+        (Event::Class(_), Event::Any) => Met::ClassMadeAfterAny,
+        (Event::Class(_), _) => Met::ClassMadeAfterFall,
+        _ => Met::AnyMadeAfterFall,
     }
 }
 

@@ -8,6 +8,7 @@ mod bytes;
 mod calllist;
 mod calls;
 mod cases;
+mod chains;
 mod contest;
 mod differences;
 mod edges;

@@ -1,16 +1,17 @@
 //! Lists of calls that lead to one edge of the documents each: repeats with overrides, half-typed runs, flags, falls across
-//! modes, repeats of parts at their ends, numbers of every length in a map file, and each limit reached exactly and passed by
-//! one.
+//! modes, repeats of parts at their ends, edges of one node and of nodes on one chain, numbers of every length in a map file, and
+//! each limit reached exactly and passed by one.
 
 use crate::calllist::{Item, List, Room};
 use crate::calls::{Call, ClassEntry, Context, Event, ModeEntry, Part, Repeat, Rule, Step, Tables};
+use crate::chains;
 use crate::gen::{Gen, Kind};
 use crate::graph::Graph;
 use crate::writing::file_of;
 
 type Scene = fn(&mut Gen) -> Vec<Call>;
 
-const SCENES: [Scene; 16] = [
+const SCENES: [Scene; 19] = [
     overrides,
     half_typed,
     flagged,
@@ -27,6 +28,9 @@ const SCENES: [Scene; 16] = [
     full_edges,
     numbers_at_edges,
     few_actions,
+    edges_of_one_node,
+    nodes_on_one_chain,
+    keys_on_one_chain,
 ];
 
 /// These have hundreds of calls or more, so they come seldom.
@@ -195,6 +199,10 @@ fn presses(keys: &[u16]) -> Vec<Call> {
 
 fn track(sequence: u16) -> Rule {
     Rule { mode: 0, low: 0, high: 65_535, sequence, status: 4 }
+}
+
+fn one_of<'a, T>(g: &mut Gen, items: &'a [T]) -> &'a T {
+    &items[g.random.below(items.len() as u64) as usize]
 }
 
 fn some_keys(g: &mut Gen, most: u64) -> Vec<u16> {
@@ -556,6 +564,20 @@ impl Fill {
         }
     }
 
+    /// Makes this node, and those before it. The keys that lead to it in mode 0.
+    fn way_to(&mut self, g: &mut Gen, node: usize) -> Vec<u16> {
+        let next = 16 + self.graph.size().0;
+        if node < next {
+            return vec![];
+        }
+        let with_max = g.random.chance(30);
+        self.nodes(g, node - next, with_max);
+        let (way, on) = (self.fresh_key(), self.fresh_key());
+        self.add(Call::Prefix(0, vec![once(way), once(on)], None));
+        assert_eq!(15 + self.graph.size().0, node, "the way leads to another node");
+        vec![self.next_key - 1]
+    }
+
     /// So many edges and no node.
     fn edges(&mut self, g: &mut Gen, edges: usize) {
         let mode = g.mode();
@@ -615,6 +637,119 @@ fn finish(g: &mut Gen, mut fill: Fill) -> Vec<Call> {
         calls.extend([press(bound), press(g.key())]);
     }
     calls
+}
+
+// ---- following
+
+/// Keys, and ranges that hold some of them: classes share keys, and one class may have several ranges.
+const TYPED: [u16; 5] = [48, 50, 97, 98, 40_000];
+const RANGES: [(u16, u16); 6] = [(0, 65_535), (48, 57), (97, 98), (50, 97), (98, 98), (97, 65_535)];
+
+fn shared_classes(g: &mut Gen) -> Tables {
+    let entry = |g: &mut Gen| {
+        let (low, high) = g.random.pick(&RANGES);
+        ClassEntry { class: g.random.small(5), low, high }
+    };
+    let entries = if g.random.chance(10) { 16 } else { 2 + g.random.below(6) };
+    Tables { classes: (0..entries).map(|_| entry(g)).collect(), ..Tables::default() }
+}
+
+/// A binding whose path ends with a part for the event, and which shows itself by its action.
+fn ending(g: &mut Gen, way: &[Part], event: Event, action: u16) -> Call {
+    let repeat = if g.random.chance(15) { edge_repeat(g, &[0, 1, 2]) } else { Repeat::Once };
+    let path = [way, &[Part { repeat, event }]].concat();
+    match g.random.below(10) {
+        0 => Call::Prefix(0, path, None),
+        1 | 2 => Call::Prefix(0, path, Some(does(action))),
+        3 => Call::Map(0, path, Step { fallthrough: Some(g.random.small(2)), ..Step::default() }),
+        _ => Call::Map(0, path, does(action)),
+    }
+}
+
+fn some_event(g: &mut Gen) -> Event {
+    match g.random.below(10) {
+        0..=4 => Event::Class(g.random.small(5)),
+        5 => Event::Any,
+        6 => Event::Fallthrough,
+        _ => Event::Key(g.random.pick(&TYPED)),
+    }
+}
+
+/// Bindings at the ends of these ways in mode 0, of every event and in any order, some of one event again; then the ways with a
+/// key behind them.
+fn edges_at(g: &mut Gen, ways: &[Vec<u16>], events: u64) -> Vec<Call> {
+    let mut calls = vec![];
+    for i in 0..events {
+        let way = one_of(g, ways);
+        let event = some_event(g);
+        calls.push(ending(g, &path(way), event, 100 + i as u16));
+    }
+    for _ in 0..4 + g.random.below(10) {
+        let way = one_of(g, ways);
+        calls.extend(presses(way));
+        calls.push(Call::Key { key: g.random.pick(&TYPED), budget: 40 });
+        if g.random.chance(20) {
+            calls.push(Call::Reset);
+        }
+    }
+    calls
+}
+
+/// Many edges of one node, a root or not, of which several are for one key.
+fn edges_of_one_node(g: &mut Gen) -> Vec<Call> {
+    let way = one_of(g, &[vec![], vec![300], vec![300, 301]]).clone();
+    let events = 4 + g.random.below(10);
+    [vec![Call::Open(shared_classes(g))], edges_at(g, &[way], events)].concat()
+}
+
+/// Nodes whose numbers differ by this have their edges for one key on one chain, for more than a third of all keys.
+const KEYS_ALIKE: usize = 831;
+
+/// Edges for the same keys at nodes that share a chain of the index: that of their edges for no key, or those of many keys. No
+/// edge of one may be taken at another.
+fn nodes_on_one_chain(g: &mut Gen) -> Vec<Call> {
+    let apart = g.random.pick(&[chains::ALIKE, chains::ALIKE, chains::ALIKE, KEYS_ALIKE]);
+    let first = g.random.pick(&[0, 0, 16, 20]);
+    let mut fill = Fill::new();
+    let mut ways = vec![];
+    for node in (first..).step_by(apart).take_while(|&node| node < 1040).take(2 + g.random.below(4) as usize) {
+        ways.push(fill.way_to(g, node));
+    }
+    let mut calls = vec![Call::Open(shared_classes(g))];
+    calls.append(&mut fill.calls);
+    let events = 6 + g.random.below(14);
+    calls.extend(edges_at(g, &ways, events));
+    calls
+}
+
+/// Keys whose edges are on one chain of the index, at the root of mode 0 and at nodes behind it. Not all are bound, and some are
+/// bound again.
+fn keys_on_one_chain(g: &mut Gen) -> Vec<Call> {
+    let chain = chains::of_key(0, g.key());
+    let mut fill = Fill::new();
+    let nodes = [0, 16, 17];
+    let ways = nodes.map(|node| (fill.way_to(g, node), chained(chain, node as u16)));
+    let some = |g: &mut Gen, most: u64| -> Vec<u16> {
+        let (way, keys) = one_of(g, &ways);
+        [&way[..], &[keys[g.random.below(most) as usize]]].concat()
+    };
+    let mut calls = vec![Call::Open(shared_classes(g))];
+    calls.append(&mut fill.calls);
+    for i in 0..6 + g.random.small(20) {
+        let way = some(g, 8);
+        calls.push(if g.random.chance(20) {
+            Call::Prefix(0, path(&way), None)
+        } else {
+            Call::Map(0, path(&way), does(100 + i))
+        });
+    }
+    calls.extend((0..12).flat_map(|_| presses(&some(g, 12))));
+    calls
+}
+
+/// The 64 keys whose edges from the node are on the chain.
+fn chained(chain: usize, node: u16) -> Vec<u16> {
+    (0..=u16::MAX).filter(|&key| chains::of_key(node, key) == chain).collect()
 }
 
 // ---- map files

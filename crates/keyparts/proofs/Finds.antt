@@ -1,6 +1,6 @@
 -- A search by blocks ends where the first word that passes is, since no word of a block that is passed has the key. Words with one key
 -- are edges of one start and event, so the rules' first edge stands at that place, and a word that goes in there is the rules' edge put.
--- Following takes the first event that has an edge, and a node is what its words stand for.
+-- A node is what its words stand for.
 use Rattle.std.specs.Prelude
 use Rattle.std.specs.Prelude.{if◌then◌else◌, cond, Some, None}
 use Rattle.std.specs.Option.{unwrap_or, MatchOption, IsSomeAnd}
@@ -14,24 +14,22 @@ use Prim.Native.Nat.{ℕ, zero, suc, ◌+◌, ◌-◌, ◌*◌, ◌<◌, ◌≤�
 use mathlib.Core.Path.{◌≡◌, refl, sym, ap, subst, ◌∙◌}
 use mathlib.Core.Bool.{Bool, true, false, not, ◌||◌}
 use mathlib.Core.List.{List, [], ◌∷◌, ◌++◌, map, map-append}
-use mathlib.Core.Option.{Option, none, some}
+use mathlib.Core.Option.{none, some}
 use native.Mathlib.Omega.{arith}
 use native.Mathlib.Numerals.{add-one}
 use lib.Dec.{ltb, eqb}
-use lib.ListN.{length, take, drop, drop_of_length-le, length-drop, set, get_or, length-map}
-use Rattle.keyvalues.specs.declared.class.ClassWord.{ClassWord}
+use lib.ListN.{length, take, drop, length-drop, set, get_or, length-map}
 use Rattle.keyvalues.specs.declared.node.NodeWords.{NodeWords}
-use lib.Seq.{drop-cons, take_all}
+use lib.Seq.{take_all}
 use borrow.Author.Tests.{lt-ltb, le-ltb, ltb-true, ltb-false}
 use Rattle.rules.specs.Basics.{accept, refuse, some_of, unless}
 use Rattle.rules.proofs.Tests.{by_cases}
-use Rattle.rules.specs.Values.{Event, Class, Fallthrough}
-use Rattle.rules.specs.Tables.{memberships, holds_key}
-use Rattle.rules.specs.Graph.{is_edge, Edge, end_in, replace_in, put_edge, add_edge, get_edge, Node, no_node, follow_first, or_else_by, lastly, class_events, Follow, Successor, FallsTo, NoSuccessor}
+use Rattle.rules.specs.Values.{Event}
+use Rattle.rules.specs.Graph.{is_edge, Edge, end_in, replace_in, put_edge, add_edge, get_edge, Node, no_node}
 use Rattle.rules.specs.Calls.{first_node}
-use Rattle.keyvalues.specs.View.{maybe_of, event_at, event_code, class_at, graph_by, node_in, node_at, action_at}
+use Rattle.keyvalues.specs.View.{maybe_of, event_at, event_code, graph_by, node_in, node_at, action_at}
 use Rattle.keyparts.specs.declared.edge.EdgeWord.{EdgeWord}
-use Rattle.keyparts.specs.View.{key_in, no_edge, edge_of, key_is, first_place, word_put, end_of, edge_words, graph_of, empty_words, follow_members}
+use Rattle.keyparts.specs.View.{key_in, no_edge, edge_of, key_is, first_place, word_put, end_of, edge_words, graph_of, empty_words}
 use Rattle.keyparts.specs.declared.graph.Graph.{Graph}
 use Rattle.keyvalues.proofs.Words.{code_event}
 use Rattle.keyparts.proofs.Edges.{edge_key, edge_word}
@@ -254,50 +252,6 @@ edge_found ws n ev i hn coded hi =
 pub edge_coded : (x : Graph) (n code i : ℕ) → n < 65536 → i ≡ first_place (key_is (n + code * 65536)) (edge_words x) → end_of (edge_words x) i ≡ get_edge (graph_of x) n (event_at code)
 unfolding get_edge graph_of
 edge_coded x n code i hn hi = edge_found (edge_words x) n (event_at code) i hn (ap event_at (code_event code)) (rw (code_event code) hi)
-
--- ---- following, by whatever gives the end of an event's edge
-module _ (end : Event → Option ℕ) where
-  pub follow_hit : (ev : Event) (evs : List Event) (to : ℕ) → end ev ≡ some to → follow_first end (ev ∷ evs) ≡ Successor ev to
-  unfolding follow_first or_else_by
-  follow_hit ev evs to e = rw e
-
-  pub follow_miss : (ev : Event) (evs : List Event) → end ev ≡ none → follow_first end (ev ∷ evs) ≡ follow_first end evs
-  unfolding follow_first or_else_by
-  follow_miss ev evs e = rw e
-
-  pub follow_falls : (to : ℕ) → end Fallthrough ≡ some to → follow_first end [] ≡ FallsTo to
-  unfolding follow_first lastly
-  follow_falls to e = rw e
-
-  pub follow_ends : end Fallthrough ≡ none → follow_first end [] ≡ NoSuccessor
-  unfolding follow_first lastly
-  follow_ends e = rw e
-
-  abbrev no_class : ClassWord
-  no_class = record { word = 0 }
-
-  -- the entry at place i of the class table: x is what following by it and those behind it comes to
-  module _ (key : ℕ) (ws : List ClassWord) (i : ℕ) (x : Follow) (all : x ≡ follow_members end key (map class_at (drop i ws))) where
-    pub members_end : length ws ≤ i → x ≡ follow_members end 0 []
-    unfolding memberships
-    members_end h = all ∙ rw (drop_of_length-le ws h)
-
-    module _ (l : i < length ws) where
-      entry : map class_at (drop i ws) ≡ class_at (get_or ws i no_class) ∷ map class_at (drop (i + 1) ws)
-      entry = rw (drop-cons ws i no_class l, add-one)
-
-      pub members_other : holds_key (class_at (get_or ws i no_class)) key ≡ false → x ≡ follow_members end key (map class_at (drop (i + 1) ws))
-      unfolding memberships
-      members_other h = all ∙ rw (entry, h)
-
-      module _ (h : holds_key (class_at (get_or ws i no_class)) key ≡ true) where
-        pub members_miss : end (Class (class_at (get_or ws i no_class)).class) ≡ none → x ≡ follow_members end key (map class_at (drop (i + 1) ws))
-        unfolding memberships class_events follow_first or_else_by
-        members_miss e = all ∙ rw (entry, h, e)
-
-        pub members_hit : (to : ℕ) → end (Class (class_at (get_or ws i no_class)).class) ≡ some to → x ≡ Successor (Class (class_at (get_or ws i no_class)).class) to
-        unfolding memberships class_events follow_first or_else_by
-        members_hit to e = all ∙ rw (entry, h, e)
 
 -- ---- the node at a number, by its words
 pub node_words : (ps : List NodeWords) (i : ℕ) → node_in (get_or ps i empty_words) ≡ get_or (map node_in ps) i no_node

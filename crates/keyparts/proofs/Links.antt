@@ -20,6 +20,7 @@ use Rattle.rules.specs.Graph.{is_edge, end_in, get_edge, follow_first, follow_ed
 use Rattle.keyvalues.specs.View.{event_at, event_code}
 use Rattle.keyparts.specs.declared.edge.EdgeWord.{EdgeWord}
 use Rattle.keyparts.specs.View.{no_edge, key_in, edge_of, edge_words, graph_of, first_place, key_is, chain_of, place_on, linked_place, end_at, linked_end, link_at, word_put, end_of, follow_links, Indexed}
+use Rattle.keyparts.specs.Pass.{words_on}
 use Rattle.keyparts.specs.declared.graph.Graph.{Graph}
 use Rattle.rules.proofs.Tests.{and_l, and_r, by_cases, event_is}
 use Rattle.keyvalues.proofs.Words.{code_event}
@@ -46,16 +47,21 @@ ltb_suc a b = grind (arith, nat_tests)
 
 -- ---- chains
 
+-- for keys and for other events alike
+chain_within : (b : Bool) (x y : ℕ) → (2048 ≤ (if b then 2048 + x % 1024 else 3072 + y % 256)) × ((if b then 2048 + x % 1024 else 3072 + y % 256) < 3328)
+chain_within true x y = (omega arith, omega arith)
+chain_within false x y = (omega arith, omega arith)
+
 pub chain_from : (key : ℕ) → 2048 ≤ chain_of key
 unfolding chain_of
-chain_from key = omega arith
+chain_from key = (chain_within (ltb (key / 65536) 65536) (key * 1607379325 / 4194304) key).0
 
-pub chain_below : (key : ℕ) → chain_of key < 2304
+pub chain_below : (key : ℕ) → chain_of key < 3328
 unfolding chain_of
-chain_below key = omega arith
+chain_below key = (chain_within (ltb (key / 65536) 65536) (key * 1607379325 / 4194304) key).1
 
 -- ---- a place goes before a chain
-module _ (ls : List ℕ) (q key : ℕ) (long : length ls ≡ 2304) (hq : q < 2048) where
+module _ (ls : List ℕ) (q key : ℕ) (long : length ls ≡ 3328) (hq : q < 2048) where
   pub link_is : link_at ls q key ≡ set (set ls q (get_or ls (chain_of key) 0)) (chain_of key) q
   unfolding link_at
   link_is = rw (lt-ltb q 2048 hq)
@@ -72,11 +78,11 @@ module _ (ls : List ℕ) (q key : ℕ) (long : length ls ≡ 2304) (hq : q < 204
   link_old : (p : ℕ) → (p ≡ q → ⊥) → (p ≡ chain_of key → ⊥) → get_or (link_at ls q key) p 0 ≡ get_or ls p 0
   link_old p d f = rw link_is (get_or-set_other (set ls q (get_or ls (chain_of key) 0)) (chain_of key) p q 0 f ∙ get_or-set_other ls q p (get_or ls (chain_of key) 0) 0 d)
 
-  link_long : length (link_at ls q key) ≡ 2304
+  link_long : length (link_at ls q key) ≡ 3328
   link_long = rw link_is (length-set (set ls q (get_or ls (chain_of key) 0)) (chain_of key) q ∙ length-set ls q (get_or ls (chain_of key) 0) ∙ long)
 
   -- what holds of the place and of every link holds of every link after
-  every_link : (P : ℕ → Type 0) → P q → ((p : ℕ) → p < 2304 → P (get_or ls p 0)) → (p : ℕ) → p < 2304 → P (get_or (link_at ls q key) p 0)
+  every_link : (P : ℕ → Type 0) → P q → ((p : ℕ) → p < 3328 → P (get_or ls p 0)) → (p : ℕ) → p < 3328 → P (get_or (link_at ls q key) p 0)
   every_link P h all p l =
       by_cases (eqb p (chain_of key))
       (λ e. subst P (sym (ap (λ (i : ℕ). get_or (link_at ls q key) i 0) (eqb-true p (chain_of key) e) ∙ first_new)) h)
@@ -85,8 +91,8 @@ module _ (ls : List ℕ) (q key : ℕ) (long : length ls ≡ 2304) (hq : q < 204
       (λ f. subst P (sym (link_old p (eqb-false p q f) (eqb-false p (chain_of key) e))) (all p l)))
 
 -- ---- the same as the search sees it: w is the word at the place, to which no link leads yet
-module _ (ws : List EdgeWord) (short : length ws ≤ 2048) (ls : List ℕ) (long : length ls ≡ 2304) (q : ℕ) (w : EdgeWord) (hq : q < length ws) (at : get_or ws q no_edge ≡ w)
-    (away : (p : ℕ) → p < 2304 → get_or ls p 0 ≡ q → ⊥) where
+module _ (ws : List EdgeWord) (short : length ws ≤ 2048) (ls : List ℕ) (long : length ls ≡ 3328) (q : ℕ) (w : EdgeWord) (hq : q < length ws) (at : get_or ws q no_edge ≡ w)
+    (away : (p : ℕ) → p < 3328 → get_or ls p 0 ≡ q → ⊥) where
   low_place : q < 2048
   low_place = omega arith
 
@@ -103,7 +109,7 @@ module _ (ws : List EdgeWord) (short : length ws ≤ 2048) (ls : List ℕ) (long
       go on true e =
           let b = ltb-true p (length ws) e in
           let f : p ≡ chain_of (key_in w) → ⊥ = λ z. absurd (omega (arith, chain_from (key_in w), z)) in
-          let l : p < 2304 = omega arith in
+          let l : p < 3328 = omega arith in
           ap (λ (r : ℕ). if key_is key (get_or ws p no_edge) then p else r)
           (ap (place_on k ws (link_at ls q (key_in w)) key) (link_old ls q (key_in w) long low_place p d f) ∙ on (get_or ls p 0) (away p l))
 
@@ -157,22 +163,22 @@ first_next ws i l key false e = rw (drop-cons ws i no_edge l, e) (omega arith)
 module _ (ws : List EdgeWord) (short : length ws ≤ 2048) where
   -- the links lead to the words from place i on
   pub record Linked (ls : List ℕ) (i : ℕ) : Type 0 where
-    pub long : length ls ≡ 2304
-    pub behind : (p : ℕ) → p < 2304 → i ≤ get_or ls p 0
-    pub inside : (p : ℕ) → p < 2304 → get_or ls p 0 < 2048 → get_or ls p 0 < length ws
+    pub long : length ls ≡ 3328
+    pub behind : (p : ℕ) → p < 3328 → i ≤ get_or ls p 0
+    pub inside : (p : ℕ) → p < 3328 → get_or ls p 0 < 2048 → get_or ls p 0 < length ws
     pub finds : (key k : ℕ) → length ws ≤ i + k → place_on k ws ls key (get_or ls (chain_of key) 0) ≡ i + first_place (key_is key) (drop i ws)
 
   -- no word is linked yet
-  pub linked_none : Linked (replicate 2304 2048) (length ws)
+  pub linked_none : Linked (replicate 3328 65535) (length ws)
   unfolding first_place
   linked_none = record {
-    long = length-replicate {A = ℕ} 2304 2048;
-    behind = λ p l. rw (get_or-replicate {A = ℕ} 2304 p 2048 0 l) short;
-    inside = λ p l h. let e = get_or-replicate {A = ℕ} 2304 p 2048 0 l in absurd (omega arith);
+    long = length-replicate {A = ℕ} 3328 65535;
+    behind = λ p l. rw (get_or-replicate {A = ℕ} 3328 p 65535 0 l) (omega arith);
+    inside = λ p l h. let e = get_or-replicate {A = ℕ} 3328 p 65535 0 l in absurd (omega arith);
     finds = λ key k h. let a : length ws ≤ length ws = omega arith in
         let d : drop (length ws) ws ≡ [] = drop_of_length-le ws a in
         let z : length ws ≡ length ws + 0 = omega arith in
-        rw (get_or-replicate {A = ℕ} 2304 (chain_of key) 2048 0 (chain_below key), d) (place_out ws (replicate 2304 2048) key k 2048 short ∙ z);
+        rw (get_or-replicate {A = ℕ} 3328 (chain_of key) 65535 0 (chain_below key), d) (place_out ws (replicate 3328 65535) key k 65535 (omega arith) ∙ z);
   }
 
   -- the word at place i goes before its chain
@@ -189,7 +195,7 @@ module _ (ws : List EdgeWord) (short : length ws ≤ 2048) where
       low : i < 2048
       low = omega arith
 
-      away : (p : ℕ) → p < 2304 → get_or ls p 0 ≡ i → ⊥
+      away : (p : ℕ) → p < 3328 → get_or ls p 0 ≡ i → ⊥
       away p u e = let b = h.behind p u in absurd (omega arith)
 
   -- the same, where the words are those before it, itself and those behind it
@@ -270,7 +276,7 @@ module _ (ws : List EdgeWord) (w : EdgeWord) (ls : List ℕ) (room : length ws <
       go on true e =
           let b = ltb-true p (length ws) e in
           let l : p < length (ws ++ (w ∷ [])) = omega (arith, length_more) in
-          let u : p < 2304 = omega arith in
+          let u : p < 3328 = omega arith in
           rw (lt-ltb p (length (ws ++ (w ∷ []))) l, get_or-append ws (w ∷ []) no_edge p b) (pick (key_is key (get_or ws p no_edge)) (on (get_or ls p 0) (h.inside p u)))
         where
           pick : (c : Bool) → place_on k (ws ++ (w ∷ [])) ls key (get_or ls p 0) ≡ raised (place_on k ws ls key (get_or ls p 0))
@@ -306,13 +312,13 @@ module _ (ws : List EdgeWord) (w : EdgeWord) (ls : List ℕ) (room : length ws <
               ∙ found key (key_is key w) refl;
         }
       where
-        away : (p : ℕ) → p < 2304 → get_or ls p 0 ≡ length ws → ⊥
+        away : (p : ℕ) → p < 3328 → get_or ls p 0 ≡ length ws → ⊥
         away p u e = let v : get_or ls p 0 < 2048 = omega arith in let b = h.inside p u v in absurd (omega arith)
 
 -- ---- what an index leads to
 
 -- an edge for the event has the event's key
-edge_has : (n : ℕ) (ev : Event) (w : EdgeWord) → is_edge n ev (edge_of w) ≡ true → n + event_code ev * 65536 ≡ key_in w
+pub edge_has : (n : ℕ) (ev : Event) (w : EdgeWord) → is_edge n ev (edge_of w) ≡ true → n + event_code ev * 65536 ≡ key_in w
 unfolding is_edge edge_of
 edge_has n ev w h =
     let a = eqb-true (key_in w % 65536) n (and_l _ _ h) in
@@ -331,6 +337,13 @@ unfolding end_in
 end_never n ev [] h = refl
 end_never n ev (w ∷ ws) h = rw (h w) (end_never n ev ws h)
 
+-- nor is any if a word with the event's key is not: n is such as no word has
+no_other : (n : ℕ) (ev : Event) (x : EdgeWord) (ws : List EdgeWord) → is_edge n ev (edge_of x) ≡ false → key_in x ≡ n + event_code ev * 65536 → end_in (map edge_of ws) n ev ≡ none
+no_other n ev x ws f q =
+    end_never n ev ws (λ w. by_cases (is_edge n ev (edge_of w))
+    (λ t. sym (same_edge n ev x w (q ∙ edge_has n ev w t)) ∙ f)
+    (λ t. t))
+
 -- at the first word with the event's key stands the first edge for the event
 end_first : (n : ℕ) (ev : Event) (ws : List EdgeWord) → end_at ws n ev (first_place (key_is (n + event_code ev * 65536)) ws) ≡ end_in (map edge_of ws) n ev
 unfolding end_at end_in first_place key_is
@@ -343,15 +356,40 @@ end_first n ev (x ∷ ws) =
     first : (b : Bool) → is_edge n ev (edge_of x) ≡ b → key_in x ≡ n + event_code ev * 65536
         → (if b then some (edge_of x).to else none) ≡ (if b then some (edge_of x).to else end_in (map edge_of ws) n ev)
     first true f q = refl
-    first false f q =
-        sym (end_never n ev ws (λ w. by_cases (is_edge n ev (edge_of w))
-        (λ t. sym (same_edge n ev x w (q ∙ edge_has n ev w t)) ∙ f)
-        (λ t. t)))
+    first false f q = sym (no_other n ev x ws f q)
 
     later : (b : Bool) → is_edge n ev (edge_of x) ≡ b → (key_in x ≡ n + event_code ev * 65536 → ⊥) → end_at ws n ev (first_place (key_is (n + event_code ev * 65536)) ws) ≡ end_in (map edge_of ws) n ev
         → end_at (x ∷ ws) n ev (suc (first_place (key_is (n + event_code ev * 65536)) ws)) ≡ (if b then some (edge_of x).to else end_in (map edge_of ws) n ev)
     later true f d ih = absurd (d (sym (edge_has n ev x f)))
     later false f d ih = rw (ltb_suc (first_place (key_is (n + event_code ev * 65536)) ws) (length ws)) ih
+
+-- of the words that the links lead to, the first that is an edge for the event is the one that a search for its key comes to
+pub end_on : (n : ℕ) (ev : Event) (ws : List EdgeWord) (ls : List ℕ) (k i : ℕ) → end_in (map edge_of (words_on k ws ls i)) n ev ≡ end_at ws n ev (place_on k ws ls (n + event_code ev * 65536) i)
+unfolding words_on place_on end_at end_in key_is
+end_on n ev ws ls zero i = let a : length ws ≤ length ws = omega arith in rw (le-ltb (length ws) (length ws) a)
+end_on n ev ws ls (suc k) i = go (ltb i (length ws)) refl (end_on n ev ws ls k (get_or ls i 0))
+  where
+    x : EdgeWord
+    x = get_or ws i no_edge
+
+    go : (b : Bool) → ltb i (length ws) ≡ b → end_in (map edge_of (words_on k ws ls (get_or ls i 0))) n ev ≡ end_at ws n ev (place_on k ws ls (n + event_code ev * 65536) (get_or ls i 0))
+        → end_in (map edge_of (if b then x ∷ words_on k ws ls (get_or ls i 0) else [])) n ev
+        ≡ end_at ws n ev (if b then (if key_is (n + event_code ev * 65536) x then i else place_on k ws ls (n + event_code ev * 65536) (get_or ls i 0)) else length ws)
+    go false e ih = let a : length ws ≤ length ws = omega arith in rw (le-ltb (length ws) (length ws) a)
+    go true e ih =
+        by_cases (key_is (n + event_code ev * 65536) x)
+        (λ t. rw (t, e) (own (is_edge n ev (edge_of x)) refl (eqb-true (key_in x) (n + event_code ev * 65536) t)))
+        (λ t. rw t (other (is_edge n ev (edge_of x)) refl (eqb-false (key_in x) (n + event_code ev * 65536) t) ∙ ih))
+      where
+        own : (b : Bool) → is_edge n ev (edge_of x) ≡ b → key_in x ≡ n + event_code ev * 65536
+            → (if b then some (edge_of x).to else end_in (map edge_of (words_on k ws ls (get_or ls i 0))) n ev) ≡ (if b then some (edge_of x).to else none)
+        own true f q = refl
+        own false f q = no_other n ev x (words_on k ws ls (get_or ls i 0)) f q
+
+        other : (b : Bool) → is_edge n ev (edge_of x) ≡ b → (key_in x ≡ n + event_code ev * 65536 → ⊥)
+            → (if b then some (edge_of x).to else end_in (map edge_of (words_on k ws ls (get_or ls i 0))) n ev) ≡ end_in (map edge_of (words_on k ws ls (get_or ls i 0))) n ev
+        other true f d = absurd (d (sym (edge_has n ev x f)))
+        other false f d = refl
 
 module _ (ws : List EdgeWord) (ls : List ℕ) (short : length ws ≤ 2048) (h : Indexed ws ls) where
   pub indexed_place : (key : ℕ) → linked_place ws ls key ≡ first_place (key_is key) ws

@@ -1,15 +1,16 @@
 -- What a graph's words and the declared types of this crate mean, in the values of the rules, and following by any links. Every
 -- word decodes to something, and any links lead somewhere.
-use Rattle.std.specs.Prelude.{ℕ, zero, suc, ◌+◌, ◌*◌, ◌/◌, ◌%◌, ◌<◌, ◌≤◌, ◌≡◌, Bool, List, [], ◌∷◌, ◌++◌, map, ltb, eqb, length, take, set, get_or, if◌then◌else◌}
+use Rattle.std.specs.Prelude
+use Rattle.std.specs.Prelude.{Some, None, ℕ, zero, suc, ◌+◌, ◌*◌, ◌/◌, ◌%◌, ◌<◌, ◌≤◌, ◌≡◌, Bool, List, [], ◌∷◌, ◌++◌, map, ltb, eqb, length, take, set, get_or, if◌then◌else◌}
 use Rattle.std.proofs.Math.Option.{Option, none, some}
 use Rattle.rules.specs.Values as v
-use Rattle.rules.specs.Tables.{ClassEntry, memberships}
+use Rattle.rules.specs.Tables.{ClassEntry}
 use Rattle.rules.specs.Graph as g
+use Rattle.keyvalues.specs.declared.event.EdgeEvent.{EdgeEvent}
 use Rattle.keyvalues.specs.declared.node.NodeWords.{NodeWords}
 use Rattle.keyvalues.specs.View.{event_of, event_at, event_code, node_in, graph_by}
 use Rattle.keyparts.specs.declared.edge.EdgeWord.{EdgeWord}
 use Rattle.keyparts.specs.declared.graph.Graph.{Graph}
-use Rattle.keyparts.specs.declared.index.IndexedGraph.{IndexedGraph}
 use Rattle.keyparts.specs.declared.follow.FollowResult.{FollowResult}
 use Rattle.keyparts.specs.declared.follow.FollowResult.TheVariants.{Successor, Fallthrough as Falls, NoSuccessor}
 
@@ -46,6 +47,14 @@ edge_words x = take 2048 (take x.counts.edges x.edges)
 unfoldable pub graph_of : Graph → g.Graph
 graph_of x = graph_by (nodes_from x.nodes x.counts.nodes) (map edge_of (edge_words x))
 
+-- the event of a word's edge, if it has the code of one
+abbrev pub event_in : EdgeWord → Option v.Event
+event_in w = if ltb (key_in w / 65536) 131074 then some (edge_of w).event else none
+
+abbrev pub maybe_event : Prelude.Option EdgeEvent → Option v.Event
+maybe_event None = none
+maybe_event (Some ev) = some (event_of ev)
+
 -- ---- searches
 
 -- the place of the first that passes the test, or how many there are
@@ -68,9 +77,11 @@ end_of ws i = if ltb i (length ws) then some (edge_of (get_or ws i no_edge)).to 
 
 -- ---- an index of the edges: a link from each edge to the next of its chain, and then to the first edge of each chain
 
--- where the link to the first edge of a chain stands; the edges of one start and one event are on one chain
+-- where the link to the first edge of a chain stands: the edges of one start and one key are on one chain, and so are those of one
+-- start whose event is no key
 unfoldable pub chain_of : ℕ → ℕ
-chain_of key = 2048 + (key / 65536 % 256 + key % 256) % 256
+chain_of key =
+    if ltb (key / 65536) 65536 then 2048 + key * 1607379325 / 4194304 % 1024 else 3072 + key % 256
 
 -- the place of the edge with the key, in at most so many steps from place i on; a place with no edge ends the chain
 unfoldable pub place_on : ℕ → List EdgeWord → List ℕ → ℕ → ℕ → ℕ
@@ -95,10 +106,6 @@ end_at ws n ev i =
 unfoldable pub linked_end : List EdgeWord → List ℕ → ℕ → v.Event → Option ℕ
 linked_end ws ls n ev = end_at ws n ev (linked_place ws ls (n + event_code ev * 65536))
 
--- the same of a graph and links that are lent together
-abbrev pub end_by : IndexedGraph → ℕ → v.Event → Option ℕ
-end_by x = linked_end (edge_words x.graph.now) x.index.now.links
-
 -- the links after the edge at place i went before the chain of its key; from 2,048 on there is no place for an edge
 unfoldable pub link_at : List ℕ → ℕ → ℕ → List ℕ
 link_at ls i key = if ltb i 2048 then set (set ls i (get_or ls (chain_of key) 0)) (chain_of key) i else ls
@@ -106,14 +113,10 @@ link_at ls i key = if ltb i 2048 then set (set ls i (get_or ls (chain_of key) 0)
 -- the links are those of an index of the words: they lead to the first word with a key in as many steps as there are words, and
 -- no link leads to a place where a further word may go
 pub record Indexed (ws : List EdgeWord) (ls : List ℕ) : Type 0 where
-  pub long : length ls ≡ 2304
-  pub inside : (p : ℕ) → p < 2304 → get_or ls p 0 < 2048 → get_or ls p 0 < length ws
+  pub long : length ls ≡ 3328
+  pub inside : (p : ℕ) → p < 3328 → get_or ls p 0 < 2048 → get_or ls p 0 < length ws
   pub finds : (key k : ℕ) → length ws ≤ k → place_on k ws ls key (get_or ls (chain_of key) 0) ≡ first_place (key_is key) ws
 
 -- following as the links lead
 unfoldable pub follow_links : List ClassEntry → List EdgeWord → List ℕ → ℕ → ℕ → g.Follow
 follow_links cs ws ls n k = g.follow_first (linked_end ws ls n) (g.events_of cs k)
-
--- following by the class table and what comes after it
-abbrev pub follow_members : (v.Event → Option ℕ) → ℕ → List ClassEntry → g.Follow
-follow_members end key cs = g.follow_first end (g.class_events (memberships cs key))

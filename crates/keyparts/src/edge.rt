@@ -3,7 +3,7 @@ ghost use Rattle.std.specs.Prelude.{◌≡◌, ◌<◌, ◌≤◌, ◌+◌, ◌*
 ghost use Rattle.std.specs.List.{list_any};
 ghost use Rattle.rules.specs.Graph as g;
 ghost use Rattle.keyvalues.specs.View.{event_at, event_code, event_of, maybe_of};
-ghost use Rattle.keyparts.specs.View.{edge_of, edge_words, end_of, first_place, graph_of, key_in, key_is, linked_end, linked_place};
+ghost use Rattle.keyparts.specs.View.{edge_of, edge_words, end_of, event_in, first_place, graph_of, key_in, key_is, linked_end, linked_place, maybe_event};
 
 use crate::graph::Graph;
 use crate::search::{Scan, Search};
@@ -47,14 +47,32 @@ impl EdgeWord {
     }
 
     #[tactic(auto, unfolding(crate::specs::View::edge_of))]
-    fn from(self) -> u16
+    pub(crate) fn from(self) -> u16
         ensures { result ≡ (edge_of self).from }
     {
         number::low(self.key())
     }
 
+    // The event that the code stands for, if any.
+    #[tactic(auto, unfolding(crate::specs::View::edge_of, keyvalues::specs::View::event_at))]
+    pub(crate) fn event(self) -> Option<EdgeEvent>
+        ensures { maybe_event result ≡ event_in self }
+    {
+        let code = self.key() / 65536;
+        match code / 65536 {
+            0 => Some(EdgeEvent::Key(number::low(code))),
+            1 => Some(EdgeEvent::Class(number::low(code))),
+            2 => match code % 65536 {
+                0 => Some(EdgeEvent::Any),
+                1 => Some(EdgeEvent::Fallthrough),
+                _ => None,
+            },
+            _ => None,
+        }
+    }
+
     #[tactic(auto, unfolding(crate::specs::View::edge_of))]
-    fn to(self) -> u16
+    pub(crate) fn to(self) -> u16
         ensures { result ≡ (edge_of self).to }
     {
         number::low(self.word)

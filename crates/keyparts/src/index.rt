@@ -1,14 +1,11 @@
 // An index of the edges, made once for many keys, or for the many steps of a repeat: an edge is found by its node and its
-// event without a search of all edges. Edges of one node and one event are on one of 256 chains. An edge has a link to the
-// next on its chain, and behind the 2,048 links of the edges stand the links to the first edge of each chain. Every value
-// of the links leads somewhere, and the search ends on all of them.
+// event without a search of all edges. A node's edges for one key are on one of 1,024 chains, and its edges whose event is no
+// key are on one of 256 others. An edge has a link to the next on its chain, and behind the 2,048 links of the edges stand the
+// links to the first edge of each chain. Every value of the links leads somewhere, and the search ends on all of them.
 ghost use Rattle.std.specs.Prelude.{◌≡◌, ◌<◌};
-ghost use Rattle.keyvalues.specs.View.{event_of, maybe_of};
-ghost use Rattle.keyparts.specs.View.{edge_words, end_by, chain_of, linked_place, link_at, Indexed};
+ghost use Rattle.keyparts.specs.View.{edge_words, chain_of, linked_place, link_at, Indexed};
 
-use crate::edge;
 use crate::graph::Graph;
-use keyvalues::event::EdgeEvent;
 
 #[repr(C)]
 #[derive(Clone, Copy)]
@@ -24,27 +21,48 @@ pub struct IndexedGraph<'a> {
     pub index: &'a Index,
 }
 
+// The keys of edges whose event is a key are below this.
+pub(crate) const KEYS: u64 = 65536 * 65536;
+
+// Node and key together are multiplied with this odd number, so that keys which differ by a power of two, keys in a row and the
+// same keys in all modes spread over the chains. Of the lower 32 bits of the product the ten highest tell the chain, and the 22
+// below them do not.
+const FACTOR: u64 = 1607379325;
+
+const BELOW: u64 = 4194304;
+
 // Which link leads to the first edge of the chain that edges with this key are on.
 #[tactic(auto, unfolding(crate::specs::View::chain_of))]
-fn chain_of(key: u64) -> usize
-    ensures { (result ≡ chain_of key) × (result < 2304) }
+pub(crate) fn chain_of(key: u64) -> usize
+    ensures { (result ≡ chain_of key) × (result < 3328) }
 {
-    Graph::EDGES as usize + (((key / 65536 % 256 + key % 256) % 256) as usize)
+    let chain = if key < KEYS {
+        key * FACTOR / BELOW % (Index::KEY_CHAINS as u64)
+    } else {
+        Index::KEY_CHAINS as u64 + key % (Index::OTHER_CHAINS as u64)
+    };
+    Graph::EDGES as usize + (chain as usize)
 }
 
 impl Index {
-    pub const CHAINS: u16 = 256;
+    pub const KEY_CHAINS: u16 = 1024;
+
+    pub const OTHER_CHAINS: u16 = 256;
 
     // A link for each edge, and one for each chain.
-    pub const LINKS: usize = Graph::EDGES as usize + Index::CHAINS as usize;
+    pub const LINKS: usize = Graph::EDGES as usize
+        + Index::KEY_CHAINS as usize
+        + Index::OTHER_CHAINS as usize;
 
-    // Goes from the last edge to the first, so that each chain begins with its first edge. A link to place 2,048, where no
-    // edge is, ends a chain.
+    // A link to a place where no edge is ends a chain. Both bytes of this one are alike, so all links are filled at once.
+    const NONE: u16 = 65535;
+
+    // Goes from the last edge to the first, so that each chain begins with its first edge.
     pub fn new(graph: &Graph) -> Index
         ensures { Indexed (edge_words graph.now) result.links }
     {
         let mut index = Index {
-            links: [Graph::EDGES; Index::LINKS],
+            links: [Index::NONE; Index::LINKS],
         };
         for (place, word) in graph.edge_words().iter().enumerate().rev() {
             index.link(place, word.key());
@@ -85,13 +103,5 @@ impl<'a> IndexedGraph<'a> {
             at = self.index.links[at] as usize;
         }
         words.len()
-    }
-
-    // The end of the node's edge for the event.
-    #[tactic(auto, using(crate::proofs::Links::linked_found))]
-    pub fn get_edge(self, node: u16, event: EdgeEvent) -> Option<u16>
-        ensures { maybe_of result ≡ end_by self.entry node (event_of event) }
-    {
-        self.graph.end_at(self.place(edge::key_of(node, event)))
     }
 }
