@@ -16,7 +16,7 @@ use Rattle.rules.specs.OnePass.{rank, class_rank}
 use Rattle.keyvalues.specs.declared.class.ClassWord.{ClassWord}
 use Rattle.keyvalues.specs.View.{class_at}
 use Rattle.keyparts.specs.Pass.{Among}
-use Rattle.keyparts.proofs.Remembered.{no_class, class_start, class_none, class_other, class_miss}
+use Rattle.keyparts.proofs.Remembered.{no_class, rank_class, class_none, class_other, class_miss}
 
 module _ (classes : List ClassWord) (k : ℕ) where
   -- the set of all bits
@@ -28,7 +28,7 @@ module _ (classes : List ClassWord) (k : ℕ) where
     pub passed : (c : ℕ) → bit_at set (c % 64) ≡ 0 → rank (map class_at classes) k (Class c) ≡ suc i + class_rank (map class_at (drop i classes)) k (Class c)
 
   pub told_none : Told 0 0
-  told_none = record { passed = λ c e. omega (arith, class_start classes k c) }
+  told_none = record { passed = λ c e. omega (arith, rank_class (map class_at classes) k c) }
 
   pub told_all : (i set : ℕ) → Told i set → length classes ≤ i → i ≤ length classes → Among (map class_at classes) k set
   told_all i set t l u c e = sym (class_none classes k c (rank (map class_at classes) k (Class c)) i (t.passed c e) l u) ∙ ap (λ (m : ℕ). m + 3) (sym (length-map classes class_at))

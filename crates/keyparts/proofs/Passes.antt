@@ -156,7 +156,7 @@ module _ (n k : ℕ) (hn : n < 65536) (hk : k < 65536) where
 
 -- so the two chains together have, for every event that the key matches, the end that the links lead to
 abbrev pub through_both : List EdgeWord → List ℕ → ℕ → ℕ → List EdgeWord
-through_both ws ls n k = ([] ++ through ws ls n (Key k)) ++ through ws ls n Any
+through_both ws ls n k = through ws ls n (Key k) ++ through ws ls n Any
 
 module _ (ws : List EdgeWord) (ls : List ℕ) (n k : ℕ) (hn : n < 65536) (hk : k < 65536) where
   both_end : (ev : Event) → end_in (map edge_of (through_both ws ls n k)) n ev ≡ or_else (end_in (map edge_of (through ws ls n (Key k))) n ev) (end_in (map edge_of (through ws ls n Any)) n ev)
@@ -268,8 +268,8 @@ module _ (classes : List ClassWord) (ws : List EdgeWord) (ls : List ℕ) (n k : 
   found_own z f e =
       e ∙ found_of_both own
       (remembers_least (map class_at classes) n k 0 own (omega arith) (in_group (n + event_code Any * 65536)) (λ x e. omega arith)
-      (words_on 2048 ws ls (get_or ls (chain_of (n + event_code Any * 65536)) 0)) ([] ++ through ws ls n (Key k)) (first.best [] (before.none n k)))
+      (words_on 2048 ws ls (get_or ls (chain_of (n + event_code Any * 65536)) 0)) (through ws ls n (Key k)) (first.best [] (before.none n k)))
 
   pub found_both : (best : Ranked) → After (map class_at classes) n k own (through ws ls n Any) best
       → (f : Follow) → f ≡ found_of (length classes) k best.rank best.word → f ≡ follow_links (map class_at classes) ws ls n k
-  found_both best second f e = e ∙ found_of_both best (second.best ([] ++ through ws ls n (Key k)) (first.best [] (before.none n k)))
+  found_both best second f e = e ∙ found_of_both best (second.best (through ws ls n (Key k)) (first.best [] (before.none n k)))

@@ -85,7 +85,7 @@ module _ (k : ℕ) where
       go false (inr h) = inr (omega arith)
 
 module _ (cs : List ClassEntry) (k : ℕ) where
-  rank_same : rank cs k (Key k) ≡ 0
+  pub rank_same : rank cs k (Key k) ≡ 0
   unfolding rank
   rank_same = rw (event_same (Key k))
 
@@ -93,7 +93,7 @@ module _ (cs : List ClassEntry) (k : ℕ) where
   unfolding rank same_event
   rank_key j e = let p = past (Key j) (λ c. refl) k cs in let q = last_key k j in rw e (omega arith)
 
-  rank_class : (d : ℕ) → rank cs k (Class d) ≡ suc (class_rank cs k (Class d))
+  pub rank_class : (d : ℕ) → rank cs k (Class d) ≡ suc (class_rank cs k (Class d))
   unfolding rank same_event
   rank_class d = refl
 
@@ -251,9 +251,6 @@ module _ (classes : List ClassWord) (k : ℕ) where
     edge = is_none (length table) k b.rank b.word (omega (arith, size)) ∙ sym (nothing_yet [] table n k);
   }
 
-  pub rank_of_key : rank table k (Key k) ≡ 0
-  rank_of_key = rank_same table k
-
   pub rank_of_other : (j : ℕ) → (j ≡ k → ⊥) → rank table k (Key j) ≡ length classes + 3
   rank_of_other j d = rank_key table k j (ne_eqb j k d) ∙ ap (λ m. m + 3) size
 
@@ -265,9 +262,6 @@ module _ (classes : List ClassWord) (k : ℕ) where
 
 -- the entries of the class table one after another: R is the rank of class d, and i entries do not give it to the key
 module _ (classes : List ClassWord) (k d : ℕ) where
-  pub class_start : rank (map class_at classes) k (Class d) ≡ suc (class_rank (map class_at classes) k (Class d))
-  class_start = rank_class (map class_at classes) k d
-
   module _ (R i : ℕ) (h : R ≡ suc i + class_rank (map class_at (drop i classes)) k (Class d)) where
     pub class_none : length classes ≤ i → i ≤ length classes → length classes + 3 ≡ R
     class_none l u = let e = rw (drop_of_length-le classes l) at h in omega (arith, last_class k d)

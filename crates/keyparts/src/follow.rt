@@ -1,6 +1,6 @@
 // Following: one round of a key at a node, by the links of an index. They lead to the edges that can matter to the key there: the
-// node's edge for the key, on one chain, and then the node's edges whose event is no key, on another. These are gone through
-// one time, by the loop of `pass`, and the best edge so far is remembered.
+// node's edge for the key, on one chain, and then the node's edges whose event is no key, on another. The loop of `pass` goes
+// through the one and then through the other, each edge one time, and remembers the best edge so far.
 ghost use Rattle.std.specs.Prelude.{◌≡◌, ◌<◌, ◌+◌, ◌*◌, true, ◌∷◌, [], List, ℕ, length, map};
 ghost use Rattle.rules.specs.Tables.{ClassEntry};
 ghost use Rattle.rules.specs.OnePass as o;
@@ -43,7 +43,7 @@ struct Order<'a> {
 }
 
 // The classes of the entries that hold the key. A node may have edges for many classes, and the table need not be gone through
-// for those that are not in the set.
+// for those that are not in the set. It is called and not built in: most tables are short, and the pass needs the registers.
 #[inline(never)]
 #[tactic(auto, using(crate::proofs::Members::told_none, crate::proofs::Members::told_all, crate::proofs::Members::told_other, crate::proofs::Members::told_held))]
 fn members(classes: &[ClassWord], key: u16) -> u64
@@ -63,7 +63,7 @@ const FEW: usize = 4;
 
 impl<'a> Order<'a> {
     // Where a class stands: behind Key, in table order, or behind all that the key matches.
-    #[tactic(auto, using(crate::proofs::Remembered::class_start, crate::proofs::Remembered::class_none, crate::proofs::Remembered::class_hit, crate::proofs::Remembered::class_other, crate::proofs::Remembered::class_miss))]
+    #[tactic(auto, using(crate::proofs::Remembered::rank_class, crate::proofs::Remembered::class_none, crate::proofs::Remembered::class_hit, crate::proofs::Remembered::class_other, crate::proofs::Remembered::class_miss))]
     fn class_rank(self, class: u16) -> usize
         requires { Among (map class_at self.classes.now) self.key self.members }
         ensures { result ≡ o.rank (map class_at self.entry.classes.now) self.entry.key (v.Class class) }
@@ -80,7 +80,7 @@ impl<'a> Order<'a> {
     }
 
     // Where an event stands: Key, its Classes, Any, Fallthrough, and behind these what the key does not match.
-    #[tactic(auto, using(crate::proofs::Remembered::rank_of_key, crate::proofs::Remembered::rank_of_other, crate::proofs::Remembered::rank_of_any, crate::proofs::Remembered::rank_of_fall))]
+    #[tactic(auto, using(crate::proofs::Remembered::rank_same, crate::proofs::Remembered::rank_of_other, crate::proofs::Remembered::rank_of_any, crate::proofs::Remembered::rank_of_fall))]
     fn rank(self, event: EdgeEvent) -> usize
         requires { Among (map class_at self.classes.now) self.key self.members }
         ensures { result ≡ o.rank (map class_at self.entry.classes.now) self.entry.key (event_of event) }
