@@ -14,6 +14,9 @@ static keymap_machine *const machine = (keymap_machine *)storage;
 /* Rounds for a key: many more than this map needs. */
 enum { BUDGET = 1000 };
 
+/* A key that the maps of this firmware leave unbound. */
+enum { CLEAR = '#' };
+
 /* The actions, as this firmware and its map have agreed. */
 enum { BEEP = 1, PICK = 10, PUT = 11, STOCK = 12, DONE = 13, LABEL = 14, LAMP = 20 };
 
@@ -83,6 +86,16 @@ static unsigned press_once(char key, uint16_t budget) {
     return KEYMAP_REFUSAL(result);
 }
 
+/* A number over 65,535 was typed. Its last digit was refused, and those before it would count for the next key. So CLEAR is
+   pressed, which takes them and beeps, and the clerk types the number again. No path of this map keeps digits on the trail, so
+   CLEAR cannot be refused as they are tried again. */
+static void clear_number(void) {
+    printf("the number is too large: type it again\n");
+    do_waiting();
+    press_once(CLEAR, BUDGET);
+    do_waiting();
+}
+
 /* Presses a key. A refused key has changed nothing, so it is pressed again where that can help. */
 static void press(char key, uint16_t budget) {
     unsigned refusal = press_once(key, budget);
@@ -92,7 +105,9 @@ static void press(char key, uint16_t budget) {
         do_waiting();
         refusal = press_once(key, BUDGET);
     }
-    if (refusal == KEYMAP_ACCEPTED)
+    if (refusal == KEYMAP_COUNT_OVERFLOW)
+        clear_number();
+    else if (refusal == KEYMAP_ACCEPTED)
         do_waiting();
 }
 
@@ -170,6 +185,10 @@ int main(void) {
     for (int i = 0; i < 256; i++)
         keymap_key(machine, 'x', BUDGET);
     press_all("x");
+
+    /* Pick 700 pieces. The clerk types 70000 first: the 7000 before the last 0 must not be picked. */
+    press_all("70000");
+    press_all("700p");
 
     /* Count the stock in mode 1, where p is not bound. That broke the sequence: the next pick starts it anew. */
     press_all("3s");

@@ -10,7 +10,7 @@
  *   binding   A path of keys in a mode, and what it does: actions, another mode, a mark.
  *   map       The classes, modes, rules and bindings of a machine as bytes, laid out as docs/KEYMAPS.md says.
  *   action    What the firmware is to do, by a number that is agreed between the map and the firmware.
- *   count     The number that was typed before an action, at most 65,535; 0 if none was.
+ *   count     The number that was typed before an action, at most 65,535 (a digit past that is refused); 0 if none was.
  *   mark      The key that a path took as "any key", or the number that a binding sets; 0 if neither.
  *   pair      An action with its count and its mark, which waits until it is popped.
  *   sequence  One of 8 lists, 0 to 7, of at most 64 pairs that the map's rules track, kept to be repeated.
@@ -74,17 +74,18 @@ typedef struct keymap_machine keymap_machine;
  */
 enum {
     KEYMAP_ACCEPTED = 0,
-    KEYMAP_RANGE = 1,    /* a number is out of its range: mend the map, or the call's argument */
-    KEYMAP_NODES = 2,    /* a binding needs a node and none of 1,024 is left: bind fewer or shorter paths */
-    KEYMAP_EDGES = 3,    /* a binding needs an edge and none of 2,048 is left: likewise */
-    KEYMAP_MODE = 4,     /* a binding's path falls through to a node of another mode: bind it in that mode */
-    KEYMAP_QUEUE = 5,    /* more than 256 pairs would wait: pop, and call again; if none waits, the map gives too many */
-    KEYMAP_SEQUENCE = 6, /* a sequence would pass 64 pairs: reset, and begin anew; the map needs a rule that breaks it */
-    KEYMAP_TRAIL = 7,    /* the trail would pass 64 keys: press a key that ends the path, or open the map again */
-    KEYMAP_BUDGET = 8,   /* the budget is used up: press again with a larger one; if 65,535 are too few, the map loops */
-    KEYMAP_NUMBER = 9,   /* the bytes end early, go on behind the end or hold a bad number: they are damaged or cut off */
-    KEYMAP_OUTPUT = 10,  /* the pairs or the map do not fit: lend more output, or run fewer keys at once */
-    KEYMAP_BINDINGS = 11 /* 1,024 bindings are kept already: open a map that has fewer, and bind to that */
+    KEYMAP_RANGE = 1,          /* a number is out of its range: mend the map, or the call's argument */
+    KEYMAP_NODES = 2,          /* a binding needs a node and none of 1,024 is left: bind fewer or shorter paths */
+    KEYMAP_EDGES = 3,          /* a binding needs an edge and none of 2,048 is left: likewise */
+    KEYMAP_MODE = 4,           /* a binding's path falls through to a node of another mode: bind it in that mode */
+    KEYMAP_QUEUE = 5,          /* more than 256 pairs would wait: pop, and call again; if none waits, the map gives too many */
+    KEYMAP_SEQUENCE = 6,       /* a sequence would pass 64 pairs: reset, and begin anew; the map needs a rule that breaks it */
+    KEYMAP_TRAIL = 7,          /* the trail would pass 64 keys: press a key that ends the path, or open the map again */
+    KEYMAP_BUDGET = 8,         /* the budget is used up: press again with a larger one; if 65,535 are too few, the map loops */
+    KEYMAP_NUMBER = 9,         /* the bytes end early, go on behind the end or hold a bad number: they are damaged or cut off */
+    KEYMAP_OUTPUT = 10,        /* the pairs or the map do not fit: lend more output, or run fewer keys at once */
+    KEYMAP_BINDINGS = 11,      /* 1,024 bindings are kept already: open a map that has fewer, and bind to that */
+    KEYMAP_COUNT_OVERFLOW = 12 /* the count would pass 65,535: press an unbound key, which takes what was typed; type again */
 };
 
 /* The refusal in a result; not for keymap_size, keymap_pop and keymap_mode, which are never refused. */
@@ -111,7 +112,12 @@ uint64_t keymap_bind(keymap_machine *machine, const uint8_t *binding, size_t bin
 /*
  * Presses a key. Its pairs wait behind those that wait already. A key mostly takes one round, and more where it ends a trail
  * in vain, since the keys of the trail are tried again: a budget of 1,000 does for common maps.
- * The result is rounds * 32 + refusal: QUEUE, SEQUENCE, TRAIL or BUDGET. The rounds made are told of a refused key too.
+ * A digit that would take the count past 65,535 is refused with COUNT_OVERFLOW, and those before it stay in the count, for the
+ * next pair. So the firmware tells the clerk and presses a key that nothing is bound to, whose pair takes them, as
+ * examples/shift.c does. If that is refused with COUNT_OVERFLOW too, digits of the trail are too many as they are tried again:
+ * then reset, and press a key that is bound alone in mode 0.
+ * The result is rounds * 32 + refusal: QUEUE, SEQUENCE, TRAIL, BUDGET or COUNT_OVERFLOW. The rounds made are told of a refused
+ * key too.
  */
 uint64_t keymap_key(keymap_machine *machine, uint16_t key, uint16_t budget);
 
@@ -190,7 +196,7 @@ uint64_t keymap_write(const keymap_machine *machine, uint8_t *output, size_t out
  * Plays keys on a fresh machine of its own: reads the map, then all keys, presses each with the budget, and writes the pairs
  * after each to the output: action, count and mark. Keys and output are numbers as in a map: groups of seven bits, lowest
  * first, 0x80 set on all but the last. At most the first 65,536 bytes of the output are used.
- * The result is length * 32 + refusal: any of 1 to 11. So many bytes were written, and the output behind them stays; refused,
+ * The result is length * 32 + refusal: any of 1 to 12. So many bytes were written, and the output behind them stays; refused,
  * the length is 0 and the whole output is zeros.
  */
 uint64_t keymap_run(

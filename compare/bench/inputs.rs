@@ -117,7 +117,8 @@ pub fn keys_of(map: &Map, count: usize, seed: u64) -> Vec<u16> {
     keys
 }
 
-/// Tapes of one kind of key each, to see what a kind costs.
+/// Tapes of one kind of key each, to see what a kind costs. The digits are zeros, so that no count passes 65,535: our side
+/// refuses such a key and ends there. The mapping behind them gives a pair, which shows that all were taken.
 pub fn kinds_of(map: &Map, count: usize, seed: u64) -> [(&'static str, Vec<u16>); 4] {
     let mut seeded = Seeded::new(seed);
     let of_length = |n: usize| -> Vec<&Binding> {
@@ -126,8 +127,10 @@ pub fn kinds_of(map: &Map, count: usize, seed: u64) -> [(&'static str, Vec<u16>)
     let mut typed = |mappings: Vec<&Binding>| -> Vec<u16> {
         std::iter::repeat_with(|| seeded.one_of(&mappings).keys()).flatten().take(count).collect()
     };
+    let last = of_length(1)[0].keys();
+    let digits = std::iter::repeat_n(*DIGITS.start(), count - 1).chain(last);
     [
-        ("digits, taken by a class", DIGITS.cycle().take(count).collect()),
+        ("digits, taken by a class", digits.collect()),
         ("mappings of one key", typed(of_length(1))),
         ("mappings of two keys", typed(of_length(2))),
         ("keys that no binding has", (UNBOUND..UNBOUND + 100).cycle().take(count).collect()),

@@ -80,6 +80,7 @@ impl InputState for Context {
     }
 }
 
+/// The count is cut at 65,535, where our machine refuses the key: no tape of the benchmark comes to that.
 impl InputKeyState<Key, Class> for Context {
     fn event(&mut self, event: &EdgeEvent<Key, Class>, key: &Key) {
         match event {

@@ -184,18 +184,11 @@ impl Context {
             mark: if over.mark != 0 { over.mark } else { self.mark },
         }
     }
+}
 
-    /// The event hook: a digit's key by class 0 counts, Any sets the mark.
-    pub fn event(&mut self, event: Event, key: u16) {
-        match event {
-            Event::Class(0) if (48..=57).contains(&key) => {
-                let count = self.count as u32 * 10 + (key - 48) as u32;
-                self.count = count.min(65_535) as u16;
-            },
-            Event::Any => self.mark = key,
-            _ => {},
-        }
-    }
+/// The digit that a key types.
+pub fn digit_of(key: u16) -> Option<u16> {
+    (48..=57).contains(&key).then(|| key - 48)
 }
 
 /// A key of 32,768 or more: its first key and the rest.

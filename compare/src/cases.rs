@@ -28,7 +28,7 @@ pub fn case_of(seed: u64) -> Case {
     let mut bindings: Vec<Call> = (0..g.random.below(5)).map(|_| g.binding()).collect();
     bindings.extend(refused_bindings(&mut g));
     let map = damaged(numbers_of(&tables, &bindings), 50, &mut g);
-    let tape: Vec<u32> = (0..g.random.below(8)).map(|_| g.key() as u32).collect();
+    let tape: Vec<u32> = (0..g.random.below(8)).flat_map(|_| g.typed()).map(u32::from).collect();
     let keys = damaged(tape, 15, &mut g);
     let budget = g.budget();
     let room = if g.random.chance(60) { g.random.below(21) } else { 60 };

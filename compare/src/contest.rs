@@ -178,7 +178,7 @@ pub fn expect_met() {
     calllist::expect_writes();
     finds::expect();
     met::expect_named("run: accepted".into());
-    (1..=11).for_each(|n| met::expect_named(format!("run: refused {n:2}")));
+    (1..=12).for_each(|n| met::expect_named(format!("run: refused {n:2}")));
     met::expect_named("run: the output is full to its last byte".into());
 }
 

@@ -221,6 +221,39 @@ fn kept_calls() -> Vec<Input> {
     )]
 }
 
+/// 65535, which each side counts, and 65536, whose last digit we refuse; by a mapping that gives a pair, and by a prefix.
+fn too_large_counts() -> Vec<Input> {
+    let digits = open(|t| t.classes = vec![ClassEntry { class: 0, low: 48, high: 57 }]);
+    let typed = |binding: &Call, number: &str| -> Vec<Call> {
+        [vec![digits.clone(), binding.clone()], number.chars().map(press).collect()].concat()
+    };
+    let five = map(&[part(Repeat::Max(5), Event::Class(0))], does(1));
+    let kept = Call::Prefix(0, vec![part(Repeat::Once, Event::Class(0))], None);
+    vec![
+        input(
+            17,
+            "class 0 for the digits, mapping Max(5) Class 0 with action 1, keys 6 5 5 3 5",
+            &[typed(&five, "65535")],
+            "done ×7; pops 1 with count 65535",
+            "ok ×7; pops 1 with count 65535",
+        ),
+        input(
+            17,
+            "class 0 for the digits, prefix Class 0, keys 6 5 5 3 6",
+            &[typed(&kept, "65536")],
+            "done ×7; pops nothing",
+            "ok ×6, refused 12; pops nothing",
+        ),
+        input(
+            17,
+            "class 0 for the digits, mapping Max(5) Class 0 with action 1, keys 6 5 5 3 6",
+            &[typed(&five, "65536")],
+            "done ×7; pops 1 with count 65535",
+            "ok ×6, refused 12; pops nothing",
+        ),
+    ]
+}
+
 /// Values and counts one over their ranges. The tables, the mark and the step's actions are the instance's: there the
 /// original is seen to take what it gives.
 fn ranges() -> Vec<Input> {
@@ -318,7 +351,7 @@ fn shortened(words: Vec<String>) -> String {
 
 /// Prints each input with what both sides make of it. Whether all is as it must be.
 pub fn differences() -> bool {
-    let mut inputs = [behaviour(), panics(), full_graphs(), full_lists(), ranges(), kept_calls()]
+    let mut inputs = [behaviour(), panics(), full_graphs(), full_lists(), ranges(), kept_calls(), too_large_counts()]
         .into_iter()
         .flatten()
         .collect::<Vec<_>>();

@@ -58,11 +58,24 @@ pub struct Gen {
     longest: u64,
     /// The percentage of calls that are given a value out of its range.
     odd: u64,
+    /// Whether class 0 takes digits, which are then typed in runs that a count may have no room for.
+    counting: bool,
     /// The mode and path of each binding so far: others begin with them.
     known: Vec<(u16, Vec<Part>)>,
 }
 
 const KEYS: [u16; 10] = [97, 98, 106, 27, 48, 50, 57, 0, 122, 32_767];
+
+/// Numbers to type: the largest count and one more, a few digits of them, and others that pass it at the fifth digit or later.
+const NUMBERS: [&str; 11] =
+    ["42", "6553", "6554", "9999", "65535", "65536", "65540", "70000", "655350", "655361", "1234567"];
+
+/// Tables whose class 0 has the digits, before whatever else they have.
+pub fn with_digits(mut tables: Tables) -> Tables {
+    tables.classes.truncate(15);
+    tables.classes.insert(0, ClassEntry { class: 0, low: 48, high: 57 });
+    tables
+}
 
 /// The list of calls of a seed.
 pub fn list_of(seed: u64, kind: Kind) -> Vec<Call> {
@@ -82,7 +95,8 @@ impl Gen {
         let modes = if random.chance(10) { 16 } else { 1 + random.small(3) };
         let longest = if random.chance(10) { 6 } else { 1 + random.below(3) };
         let odd = if random.chance(30) { 15 } else { 0 };
-        Gen { random, kind, keys, modes, longest, odd, known: vec![] }
+        let counting = random.chance(15);
+        Gen { random, kind, keys, modes, longest, odd, counting, known: vec![] }
     }
 
     // ---- values
@@ -93,6 +107,28 @@ impl Gen {
         }
         let keys = self.keys.clone();
         self.random.pick(&keys)
+    }
+
+    pub fn digit(&mut self) -> u16 {
+        48 + self.random.small(10)
+    }
+
+    /// The keys of a number, now and then behind zeros or with further digits.
+    pub fn number(&mut self) -> Vec<u16> {
+        let zeros = if self.random.chance(25) { self.random.below(4) } else { 0 };
+        let further = if self.random.chance(40) { self.random.below(4) } else { 0 };
+        let number = self.random.pick(&NUMBERS).bytes().map(u16::from);
+        let keys = vec![48; zeros as usize].into_iter().chain(number).chain((0..further).map(|_| self.digit()));
+        keys.collect()
+    }
+
+    /// A key; where digits are counted, often a number.
+    pub fn typed(&mut self) -> Vec<u16> {
+        if self.counting && self.random.chance(40) {
+            self.number()
+        } else {
+            vec![self.key()]
+        }
     }
 
     pub fn mode(&mut self) -> u16 {
@@ -250,12 +286,19 @@ impl Gen {
             // one push then fills a sequence
             tables.rules.fill(Rule { mode: 0, low: 0, high: 65_535, sequence: 0, status: 4 });
         }
-        tables
+        if self.counting {
+            with_digits(tables)
+        } else {
+            tables
+        }
     }
 
     // ---- calls
 
     pub fn binding(&mut self) -> Call {
+        if self.counting && self.random.chance(40) {
+            return self.counting_binding();
+        }
         let prefixes = if self.kind == Kind::Plain { 0 } else { 25 };
         let (mode, path) = self.way();
         if !self.random.chance(prefixes) {
@@ -263,6 +306,24 @@ impl Gen {
         }
         let step = self.random.chance(40).then(|| self.step());
         Call::Prefix(mode, path, step)
+    }
+
+    /// A binding that takes digits by class 0: a prefix, a run of any length, or some digits and perhaps a part behind them.
+    fn counting_binding(&mut self) -> Call {
+        let mode = self.mode();
+        let digits = |repeat| Part { repeat, event: Event::Class(0) };
+        match self.random.below(4) {
+            _ if self.kind == Kind::Plain => {},
+            0 => return Call::Prefix(mode, vec![digits(Repeat::Once)], None),
+            1 => return Call::Prefix(mode, vec![digits(Repeat::Once)], Some(self.step())),
+            2 => return Call::Map(mode, vec![digits(Repeat::Min(0)), self.part()], self.step()),
+            _ => {},
+        }
+        let mut path = vec![digits(Repeat::Once); 1 + self.random.below(6) as usize];
+        if self.random.chance(50) {
+            path.push(self.part());
+        }
+        Call::Map(mode, path, self.step())
     }
 
     /// Few rounds; or enough for most keys; or enough to fill the queue (257 and more).
@@ -276,8 +337,9 @@ impl Gen {
         }
     }
 
-    fn press(&mut self) -> Call {
-        Call::Key { key: self.key(), budget: self.budget() }
+    fn presses(&mut self) -> Vec<Call> {
+        let keys = self.typed();
+        keys.into_iter().map(|key| Call::Key { key, budget: self.budget() }).collect()
     }
 
     fn override_context(&mut self) -> Context {
@@ -299,7 +361,7 @@ impl Gen {
     pub fn calls(&mut self) -> Vec<Call> {
         match self.random.below(100) {
             0..=11 => vec![self.binding()],
-            12..=68 => vec![self.press()],
+            12..=68 => self.presses(),
             69..=83 => vec![Call::Pop],
             84..=93 => self.repeats(),
             94..=97 => vec![Call::Reset],
@@ -350,7 +412,7 @@ impl Gen {
 
     pub fn list(&mut self) -> Vec<Call> {
         let mut list = vec![];
-        if self.random.chance(85) {
+        if self.counting || self.random.chance(85) {
             list.push(Call::Open(self.tables()));
         }
         for _ in 0..1 + self.random.below(7) {

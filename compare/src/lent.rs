@@ -22,11 +22,12 @@ const CALLS: &str = "C: calls of lists";
 const KEPT: &str = "C: refused or looking, and no byte of the machine changed";
 const DAMAGED: &str = "C: a byte too few or too many, refused";
 const LARGE: &str = "C: repeat_over with a count over 65,535, refused";
+const PASSED: &str = "C: a key whose count would pass 65,535, refused 12";
 const AGAIN: &str = "C: a written file opens a machine that writes it again";
 const ONE_MORE: &str = "C: a file of 1,024 bindings and one more, refused 11";
 
 pub fn expect_calls() {
-    [CALLS, KEPT, DAMAGED, LARGE, AGAIN, ONE_MORE].iter().for_each(|words| expect_named(words.to_string()));
+    [CALLS, KEPT, DAMAGED, LARGE, PASSED, AGAIN, ONE_MORE].iter().for_each(|words| expect_named(words.to_string()));
 }
 
 /// How the machine differs from the lines, if it does.
@@ -45,6 +46,9 @@ fn play(calls: &[(Item, Line)]) -> Result<(), String> {
             return Err(format!("the lent machine at {item:?}: {}", line.against(&is)));
         }
         met_named(CALLS.into());
+        if is.starts_with("refused 12 ") {
+            met_named(PASSED.into());
+        }
         if let Item::Write(Room::Of(room)) = item {
             read_back(&mut machine, *room)?;
         }

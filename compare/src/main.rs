@@ -33,6 +33,7 @@ use std::io::Read;
 use std::path::Path;
 
 use antt::{Row, Sort};
+use calls::Call;
 use contest::Contest;
 use gen::Kind;
 
@@ -48,16 +49,16 @@ compare keyplay                      what `keyplay` prints for standard input
 compare run FOLDER SECONDS FIRST     random lists and runs from seed FIRST on, against the programs in FOLDER and the archive
 compare seed FOLDER SEED             one of these again
 compare record calls|runs FOLDER     the recorded lists or runs: writes stdin and stdout there
-KIND is usual, plain, long or big. SORT is a kind; or runs, or keyplay; for many also lists, which is what `compare run` plays;
-for rows also reader, which is plain lists on the list reader, and graphs and files, which are nodes and edges, and the map
-file, after the bindings of usual lists";
+KIND is usual, plain, long or big, or counts, which is the scenes of counts that pass their limit. SORT is a kind; or runs, or
+keyplay; for many also lists, which is what `compare run` plays; for rows also reader, which is plain lists on the list reader,
+and graphs and files, which are nodes and edges, and the map file, after the bindings of usual lists";
 
 fn main() {
     let words: Vec<String> = std::env::args().skip(1).collect();
     let words: Vec<&str> = words.iter().map(String::as_str).collect();
     match words.as_slice() {
         ["edges"] => edges(),
-        ["play", kind, seed] => show(kind_of(kind), number(seed)),
+        ["play", kind, seed] => show(kind, number(seed)),
         ["many", sort, first, count] => many(sort, number(first), number(count)),
         ["rows", sort, first, count, name] => rows(sort, number(first), number(count), name),
         ["differences"] => ended(differences::differences()),
@@ -94,14 +95,16 @@ fn number(word: &str) -> u64 {
     word.parse().unwrap_or_else(|_| stop(USAGE))
 }
 
-fn kind_of(word: &str) -> Kind {
-    match word {
+fn list_of(seed: u64, kind: &str) -> Vec<Call> {
+    let kind = match kind {
+        "counts" => return scenes::counting_of(seed),
         "usual" => Kind::Usual,
         "plain" | "reader" => Kind::Plain,
         "long" => Kind::Long,
         "big" => Kind::Big,
         _ => stop(USAGE),
-    }
+    };
+    gen::list_of(seed, kind)
 }
 
 /// What model and original agree on; where they do not, the comparison ends.
@@ -112,13 +115,13 @@ fn agreed<T>(seed: u64, outcome: Result<T, String>) -> T {
     })
 }
 
-fn played(seed: u64, kind: Kind) -> play::Played {
-    agreed(seed, play::play(&gen::list_of(seed, kind)))
+fn played(seed: u64, kind: &str) -> play::Played {
+    agreed(seed, play::play(&list_of(seed, kind)))
 }
 
-fn show(kind: Kind, seed: u64) {
+fn show(kind: &str, seed: u64) {
     let played = played(seed, kind);
-    println!("seed {seed}, {kind:?}");
+    println!("seed {seed}, {kind}");
     for (call, seen) in played.calls.iter().zip(&played.seen) {
         println!("{call:?}\n    {}, mode {}", seen.answer, seen.mode);
     }
@@ -146,12 +149,12 @@ fn many(sort: &str, first: u64, count: u64) {
         "runs" => many_runs(seeds),
         "keyplay" => many_plays(seeds),
         "lists" => many_contests(seeds),
-        kind => many_lists(kind_of(kind), seeds),
+        kind => many_lists(kind, seeds),
     }
     println!("{count} of {sort}, seeds {first} to {}: model and original agree", first + count - 1);
 }
 
-fn many_lists(kind: Kind, seeds: std::ops::Range<u64>) {
+fn many_lists(kind: &str, seeds: std::ops::Range<u64>) {
     let (mut nodes, mut edges) = (0, 0);
     for seed in seeds {
         let p = played(seed, kind);
@@ -211,11 +214,11 @@ fn rows(sort: &str, first: u64, count: u64, name: &str) {
             antt::play_row(row_name(seed), &input, &agreed(seed, mapfile::keyplay(&input)))
         }),
         "graphs" => (Sort { of: "Built", outcome: "build_outcome" }, |seed, _| {
-            let (calls, model) = agreed(seed, play::build(&gen::list_of(seed, Kind::Usual)));
+            let (calls, model) = agreed(seed, play::build(&list_of(seed, "usual")));
             antt::graph_row(row_name(seed), &calls, model.graph())
         }),
         "files" => (Sort { of: "Filed", outcome: "file_outcome" }, |seed, _| {
-            let (calls, model) = agreed(seed, play::build(&gen::list_of(seed, Kind::Usual)));
+            let (calls, model) = agreed(seed, play::build(&list_of(seed, "usual")));
             let file = model.file();
             // a byte too few, just enough, and some more
             let lent = vec![0xAA; file.len() - 1 + seed as usize % 4];
@@ -234,5 +237,5 @@ fn row_name(seed: u64) -> String {
 }
 
 fn list_row(seed: u64, kind: &str) -> Row {
-    antt::list_row(row_name(seed), &played(seed, kind_of(kind)))
+    antt::list_row(row_name(seed), &played(seed, kind))
 }

@@ -1,7 +1,7 @@
 //! What a comparison met: each branch of the key loop, each refusal and each limit, counted as the model meets it, so that
 //! a reader sees at its end that nothing was left out.
 
-use std::cell::RefCell;
+use std::cell::{Cell, RefCell};
 use std::collections::BTreeMap;
 
 use crate::calls::Repeat;
@@ -59,7 +59,21 @@ places! {
     EnterActions: "enter: actions",
     EnterSame: "enter: the mode that was entered already",
     Digit: "event: a digit counts",
-    DigitFull: "event: the count stays at 65,535",
+    LeadingZero: "event: a zero counts, with a count of 0",
+    NoDigit: "event: class 0 takes a key that is no digit",
+    CountPassed: "event: a digit is refused with 12",
+    CountPassedByOne: "event: a digit is refused with 12, at 65,536",
+    CountPassedFull: "event: a digit is refused with 12, behind a count of 65,535",
+    PassingByKey: "event: none for a digit that would pass 65,535, and goes by its Key edge",
+    PassingByClass: "event: none for a digit that would pass 65,535, and goes by another class",
+    PassingByAny: "event: Any alone for a digit that would pass 65,535",
+    PassingStuck: "event: none for a digit that would pass 65,535, and has no edge",
+    CountLater: "12: in a later round of the key",
+    CountAfterPairs: "12: after pairs that the key has given",
+    CountBeforeQueue: "12: before 5, where the round would also pass 256 pairs",
+    CountBeforeTracked: "12: before 6, where the round would also pass 64 pairs of a sequence",
+    CountBeforeTrail: "12: before 7, where the key would also be the 65th on the trail",
+    BudgetFirst: "8: where the round that is due would be refused with 12",
     AnyMark: "event: Any sets the mark",
     Atom: "sequence: Atom",
     Break: "sequence: Break",
@@ -84,6 +98,7 @@ places! {
     QueueFullRepeat: "full: a repeat makes 256 pairs",
     TrackedFull: "full: a Track makes 64 pairs",
     TrailFull: "full: a key makes a trail of 64",
+    CountFull: "full: a digit makes a count of 65,535",
 }
 
 /// Where a part stands in its path.
@@ -115,10 +130,21 @@ impl Counts {
 
 thread_local! {
     static COUNTS: RefCell<Counts> = RefCell::new(Counts::new());
+    static ASIDE: Cell<bool> = const { Cell::new(false) };
 }
 
 fn counting(count: impl FnOnce(&mut Counts)) {
-    COUNTS.with(|c| count(&mut c.borrow_mut()));
+    if !ASIDE.get() {
+        COUNTS.with(|c| count(&mut c.borrow_mut()));
+    }
+}
+
+/// Work of which nothing is counted: what would come of something else.
+pub fn aside<T>(work: impl FnOnce() -> T) -> T {
+    ASIDE.set(true);
+    let done = work();
+    ASIDE.set(false);
+    done
 }
 
 pub fn met(place: Met) {

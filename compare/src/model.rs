@@ -1,19 +1,22 @@
-//! The original's machine written again with what it does not have: a count of rounds with a budget, and the limits of
-//! document 01. The functions carry the original's names and keep its order of work, so that the first refusal met is
-//! the one that document 01 names. `play.rs` holds every accepted call of it to the original itself.
+//! The original's machine written again with what it does not have: a count of rounds with a budget, the limits of document 01,
+//! and an event hook that refuses (document 02). The functions carry the original's names and keep its order of work, so that
+//! the first refusal met is the one that the documents name. `play.rs` holds every accepted call of it to the original itself.
 
 use std::collections::{HashMap, VecDeque};
 use std::rc::Rc;
 
-use crate::calls::{binding_valid, decompose, tables_valid, Answer, Call, Context, Event, Pair, Step, Tables};
+use crate::calls::{
+    binding_valid, decompose, digit_of, tables_valid, Answer, Call, Context, Event, Pair, Step, Tables,
+};
 use crate::graph::{limits, Follow, Graph, NodeAction, NodeId, Outcome};
-use crate::met::{met, met_if, met_which, stacked, Met};
+use crate::met::{aside, met, met_if, met_which, stacked, Met};
 use crate::writing::file_of;
 
 const MOST_QUEUED: usize = 256;
 const MOST_TRACKED: usize = 64;
 const MOST_TRAIL: usize = 64;
 const MOST_STACKED: usize = 130;
+const MOST_COUNTED: u32 = 65_535;
 
 // ---- sequences
 
@@ -66,10 +69,17 @@ enum InputResult {
 struct Rounds {
     made: u32,
     budget: u32,
+    /// For the counts alone: the key that the last round was due for.
+    key: u16,
 }
 
 impl Rounds {
-    fn next(&mut self) -> Outcome<()> {
+    fn within(budget: u16) -> Self {
+        Rounds { made: 0, budget: budget as u32, key: 0 }
+    }
+
+    fn next(&mut self, key: u16) -> Outcome<()> {
+        self.key = key;
         if self.made == self.budget {
             return Err(8);
         }
@@ -221,16 +231,17 @@ impl Model {
 
     fn input(&mut self, key: u16, rounds: &mut Rounds) -> Outcome<InputResult> {
         loop {
-            rounds.next()?;
+            rounds.next(key)?;
             match self.graph.follow_edge(&self.tables, self.curr, key) {
                 Follow::Successor(event, end) => {
                     self.note_event(event, key);
-                    self.context.event(event, key);
+                    self.event(event, key)?;
                     self.curr = end;
                     return Ok(self.arrived());
                 },
                 Follow::NoSuccessor => {
                     met(Met::Stuck);
+                    met_if(self.would_pass(key), Met::PassingStuck);
                     return Ok(InputResult::Unmapped);
                 },
                 Follow::Fallthrough(end) => {
@@ -252,19 +263,53 @@ impl Model {
         }
     }
 
+    /// The event hook: a digit's key by class 0 counts, Any sets the mark.
+    fn event(&mut self, event: Event, key: u16) -> Outcome<()> {
+        match (event, digit_of(key)) {
+            (Event::Class(0), Some(digit)) => self.count(digit)?,
+            (Event::Any, _) => self.context.mark = key,
+            _ => {},
+        }
+        Ok(())
+    }
+
+    fn count(&mut self, digit: u16) -> Outcome<()> {
+        let count = self.counted(digit);
+        note_count(self.context.count as u32, count);
+        if count > MOST_COUNTED {
+            return Err(12);
+        }
+        self.context.count = count as u16;
+        Ok(())
+    }
+
+    /// The count with one more digit.
+    fn counted(&self, digit: u16) -> u32 {
+        self.context.count as u32 * 10 + digit as u32
+    }
+
+    /// Whether a key is a digit that would take the count past its limit.
+    fn would_pass(&self, key: u16) -> bool {
+        digit_of(key).is_some_and(|digit| self.counted(digit) > MOST_COUNTED)
+    }
+
     /// For the counts alone.
     fn note_event(&self, event: Event, key: u16) {
+        let passing = self.would_pass(key);
         match event {
-            Event::Key(_) => met(Met::ByKey),
+            Event::Key(_) => {
+                met(Met::ByKey);
+                met_if(passing, Met::PassingByKey);
+            },
             Event::Class(c) => {
                 met_which(self.tables.memberships(key).first() == Some(&c), Met::ByFirstClass, Met::ByLaterClass);
-                let digit = c == 0 && (48..=57).contains(&key);
-                met_if(digit, Met::Digit);
-                met_if(digit && self.context.count == 65_535, Met::DigitFull);
+                met_if(c == 0 && digit_of(key).is_none(), Met::NoDigit);
+                met_if(c != 0 && passing, Met::PassingByClass);
             },
             Event::Any => {
                 met(Met::ByAny);
                 met(Met::AnyMark);
+                met_if(passing, Met::PassingByAny);
             },
             Event::Fallthrough => unreachable!("no key takes a Fallthrough edge as its own"),
         }
@@ -387,11 +432,38 @@ impl Model {
     }
 
     fn key(&mut self, key: u16, budget: u16) -> Answer {
-        let mut rounds = Rounds { made: 0, budget: budget as u32 };
-        match self.tried(|m| m.input_key(key, &mut rounds)) {
+        let mut rounds = Rounds::within(budget);
+        let waiting = self.queue.len();
+        match self.tried(|m| m.input_key(key, &mut rounds).inspect_err(|&n| m.note_refused(n, &rounds, waiting))) {
             Ok(()) => Answer::Rounds(rounds.made),
             Err(n) => Answer::RefusedRounds(n, rounds.made),
         }
+    }
+
+    /// For the counts alone: a key that is refused with 12, or with 8 before it. So many pairs waited when it came, and the
+    /// machine is as the refusal finds it.
+    fn note_refused(&self, refusal: u16, rounds: &Rounds, waiting: usize) {
+        match refusal {
+            8 => met_if(self.one_round(rounds.key, self.context.count) == Err(12), Met::BudgetFirst),
+            12 => {
+                met_if(rounds.made > 1, Met::CountLater);
+                met_if(self.queue.len() > waiting, Met::CountAfterPairs);
+                match self.one_round(rounds.key, 0) {
+                    Err(5) => met(Met::CountBeforeQueue),
+                    Err(6) => met(Met::CountBeforeTracked),
+                    Err(7) => met(Met::CountBeforeTrail),
+                    _ => {},
+                }
+            },
+            _ => {},
+        }
+    }
+
+    /// What the next round would come to for a key and a count.
+    fn one_round(&self, key: u16, count: u16) -> Outcome<()> {
+        let mut other = self.clone();
+        other.context.count = count;
+        aside(|| other.try_key(key, &mut vec![], &mut Rounds::within(1)))
     }
 
     fn change(&mut self, call: &Call) -> Outcome<()> {
@@ -430,6 +502,15 @@ impl Model {
         }
         outcome
     }
+}
+
+/// For the counts alone: a digit that makes a count of another.
+fn note_count(old: u32, new: u32) {
+    met_which(new > MOST_COUNTED, Met::CountPassed, Met::Digit);
+    met_if(new == MOST_COUNTED + 1, Met::CountPassedByOne);
+    met_if(new > MOST_COUNTED && old == MOST_COUNTED, Met::CountPassedFull);
+    met_if(new == MOST_COUNTED, Met::CountFull);
+    met_if(new == 0, Met::LeadingZero);
 }
 
 /// For the counts alone.

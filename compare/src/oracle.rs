@@ -1,6 +1,7 @@
 //! The unchanged original as a machine of document 01: an instance of its traits that takes its meaning from tables.
 //! The traits pass no tables along, so those of the machine at work stand in a thread's own variable. So does the count of
-//! rounds, which the original does not keep: the traits' functions that `follow_edge` and what comes after it call tell.
+//! rounds, which the original does not keep: the traits' functions that `follow_edge` and what comes after it call tell. And so
+//! does the round in which a count first passed 65,535: the original's event hook cannot refuse.
 
 use std::cell::{Cell, RefCell};
 use std::panic::{catch_unwind, resume_unwind, set_hook, take_hook, AssertUnwindSafe};
@@ -26,16 +27,24 @@ fn with_tables<T>(look: impl FnOnce(&Tables) -> T) -> T {
 /// No accepted key makes more, since a budget is at most this.
 const MOST_ROUNDS: u32 = 65_535;
 
-/// The rounds made by the key at work, the most it may make, and whether the last one may still be told of again.
+/// The rounds made by the key at work, the most it may make, whether the last one may still be told of again, and the first in
+/// which the count was cut.
 #[derive(Clone, Copy)]
 struct Rounds {
     made: u32,
     most: u32,
     open: bool,
+    cut: Option<u32>,
+}
+
+impl Rounds {
+    const fn within(most: u32) -> Self {
+        Rounds { made: 0, most, open: false, cut: None }
+    }
 }
 
 thread_local! {
-    static ROUNDS: Cell<Rounds> = const { Cell::new(Rounds { made: 0, most: MOST_ROUNDS, open: false }) };
+    static ROUNDS: Cell<Rounds> = const { Cell::new(Rounds::within(MOST_ROUNDS)) };
 }
 
 /// What is thrown out of the original when it begins a round too many.
@@ -51,6 +60,11 @@ fn begin_round() {
 
 fn end_round() {
     ROUNDS.set(Rounds { open: false, ..ROUNDS.get() });
+}
+
+fn cut_in_round() {
+    let r = ROUNDS.get();
+    ROUNDS.set(Rounds { cut: r.cut.or(Some(r.made)), ..r });
 }
 
 // A call of `follow_edge` is told of by
@@ -119,16 +133,24 @@ impl InputState for TableState {
 
 impl InputKeyState<TableKey, TableClass> for TableState {
     fn event(&mut self, event: &EdgeEvent<TableKey, TableClass>, key: &TableKey) {
-        if matches!(event, EdgeEvent::Key(_)) {
-            begin_round();
+        match (event, calls::digit_of(key.0)) {
+            (EdgeEvent::Key(_), _) => begin_round(),
+            (EdgeEvent::Class(TableClass(0)), Some(digit)) => self.count(digit),
+            (EdgeEvent::Any, _) => self.0.mark = key.0,
+            _ => {},
         }
-        let event = match event {
-            EdgeEvent::Key(k) => Event::Key(k.0),
-            EdgeEvent::Class(c) => Event::Class(c.0),
-            EdgeEvent::Any => Event::Any,
-            EdgeEvent::Fallthrough => Event::Fallthrough,
-        };
-        self.0.event(event, key.0);
+    }
+}
+
+impl TableState {
+    /// Document 01's count, which is cut at 65,535. Document 02 refuses such a key, request (iv), and a hook of the original
+    /// cannot. So the instance tells the round, and `play.rs` holds the model to it and takes the key back.
+    fn count(&mut self, digit: u16) {
+        let count = self.0.count as u32 * 10 + digit as u32;
+        if count > 65_535 {
+            cut_in_round();
+        }
+        self.0.count = count.min(65_535) as u16;
     }
 }
 
@@ -216,6 +238,13 @@ pub struct Oracle {
     done: Vec<Call>,
 }
 
+/// The rounds that a key made, and the first of them in which its count was cut.
+#[derive(Clone, Copy, Debug, PartialEq)]
+pub struct Made {
+    pub rounds: u32,
+    pub cut: Option<u32>,
+}
+
 /// What came of a call. Endless is a key that makes more rounds than any budget has.
 pub enum Attempt {
     Done(Option<Pair>),
@@ -270,17 +299,19 @@ impl Oracle {
         }
     }
 
-    /// The rounds that the last key made.
-    pub fn rounds(&self) -> u32 {
-        ROUNDS.get().made
+    /// What the last key made.
+    pub fn made(&self) -> Made {
+        let Rounds { made, cut, .. } = ROUNDS.get();
+        Made { rounds: made, cut }
     }
 
-    /// Whether the original, given a key, goes beyond so many rounds.
-    pub fn exceeds(&mut self, rounds: u32, key: u16) -> bool {
-        ROUNDS.set(Rounds { made: 0, most: rounds, open: false });
+    /// What the original makes of a key in so many rounds at most, unless it panics.
+    pub fn makes(&mut self, most: u32, key: u16) -> Option<Made> {
+        ROUNDS.set(Rounds::within(most));
         let thrown = catch_unwind(AssertUnwindSafe(|| self.machine_with_tables().input_key(TableKey(key)))).err();
+        let made = self.made();
         self.again();
-        thrown.is_some_and(|t| t.is::<OverBudget>())
+        thrown.is_none_or(|t| t.is::<OverBudget>()).then_some(made)
     }
 
     /// Whether the original panics at a call, as its `assert_eq!` on the mode does. That is an answer here and no news, so
@@ -310,7 +341,7 @@ impl Oracle {
                 m.add_prefix(TableMode(*mode), &path_of(path), &step.clone().map(TableStep));
             },
             Call::Key { key, .. } => {
-                ROUNDS.set(Rounds { made: 0, most: MOST_ROUNDS, open: false });
+                ROUNDS.set(Rounds::within(MOST_ROUNDS));
                 m.input_key(TableKey(*key));
             },
             Call::Pop => return m.pop().map(|(action, context)| Pair { action, context }),

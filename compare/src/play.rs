@@ -5,7 +5,7 @@ use crate::calls::{Answer, Call, Context, Pair};
 use crate::graph::limits;
 use crate::met::{expect_named, met_named};
 use crate::model::Model;
-use crate::oracle::Oracle;
+use crate::oracle::{Made, Oracle};
 
 /// What can be seen after a call.
 #[derive(Clone, Debug, PartialEq)]
@@ -57,14 +57,17 @@ impl Both {
         }
     }
 
-    /// 8: the original would begin a further round. Else it makes the last of the rounds, and perhaps more.
+    /// 8: the original would begin a further round. Else it makes the last of the rounds, and perhaps more. 12: that is the
+    /// first in which its count is cut; else none is.
     fn follow_refused(&mut self, key: u16, refusal: u16, rounds: u32) -> Result<(), String> {
-        let least = if refusal == 8 { rounds } else { rounds - 1 };
-        if self.original.exceeds(least, key) {
+        let due = if refusal == 8 { rounds + 1 } else { rounds };
+        let made = self.original.makes(due, key);
+        let cut = (refusal == 12).then_some(rounds);
+        if made.is_some_and(|m| m.rounds == due && m.cut.filter(|&round| round <= rounds) == cut) {
             return Ok(());
         }
         Err(format!(
-            "key {key} is refused with {refusal} after {rounds} rounds, but the original makes at most {least}"
+            "key {key} is refused with {refusal} after {rounds} rounds, but within {due} the original has {made:?}"
         ))
     }
 
@@ -73,9 +76,9 @@ impl Both {
         if matches!(call, Call::Pop) && pair != pair_of(answer) {
             return Err(format!("the original pops {pair:?}, the model {answer}"));
         }
-        match answer {
-            Answer::Rounds(rounds) if rounds != self.original.rounds() => {
-                Err(format!("at {call:?} the original makes {} rounds, the model {rounds}", self.original.rounds()))
+        match (answer, self.original.made()) {
+            (Answer::Rounds(rounds), made) if made != (Made { rounds, cut: None }) => {
+                Err(format!("at {call:?} the model makes {rounds} rounds, and the original has {made:?}"))
             },
             _ => Ok(()),
         }
@@ -150,7 +153,7 @@ pub fn expect_answers() {
         ("open", &[1]),
         ("map", &[1, 2, 3, 4, 11]),
         ("prefix", &[1, 2, 3, 11]),
-        ("key", &[5, 6, 7, 8]),
+        ("key", &[5, 6, 7, 8, 12]),
         ("repeat", &[1, 5]),
         ("reset", &[5, 6]),
     ];

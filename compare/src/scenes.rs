@@ -5,13 +5,13 @@
 use crate::calllist::{Item, List, Room};
 use crate::calls::{Call, ClassEntry, Context, Event, ModeEntry, Part, Repeat, Rule, Step, Tables};
 use crate::chains;
-use crate::gen::{Gen, Kind};
+use crate::gen::{with_digits, Gen, Kind};
 use crate::graph::Graph;
 use crate::writing::file_of;
 
 type Scene = fn(&mut Gen) -> Vec<Call>;
 
-const SCENES: [Scene; 19] = [
+const SCENES: [Scene; 22] = [
     overrides,
     half_typed,
     flagged,
@@ -19,6 +19,9 @@ const SCENES: [Scene; 19] = [
     few_repeats,
     many_repeats,
     counts,
+    counts_on_a_trail,
+    counts_before_pairs,
+    counts_tried_again,
     full_queue,
     full_trail,
     full_stack,
@@ -36,6 +39,15 @@ const SCENES: [Scene; 19] = [
 /// These have hundreds of calls or more, so they come seldom.
 const LONG_SCENES: [Scene; 5] = [kept_calls, kept_with_full_graph, kept_and_opened, longest_file, file_of_65_536];
 
+/// Those whose digits come to a count's limit.
+const COUNTING: [Scene; 4] = [counts, counts_on_a_trail, counts_before_pairs, counts_tried_again];
+
+/// The calls of a seed in one of these.
+pub fn counting_of(seed: u64) -> Vec<Call> {
+    let mut g = Gen::new(seed, Kind::Usual);
+    one_of(&mut g, &COUNTING)(&mut g)
+}
+
 /// The calls of a seed: a scene, or a list of some kind.
 pub fn calls_of(seed: u64) -> Vec<Call> {
     let mut g = Gen::new(seed, Kind::Usual);
@@ -45,8 +57,8 @@ pub fn calls_of(seed: u64) -> Vec<Call> {
     }
     let mut other = |kind| Gen::new(g.random.next(), kind).list();
     match which {
-        2..=44 => SCENES[scene as usize](&mut g),
-        45..=74 => other(Kind::Usual),
+        2..=49 => SCENES[scene as usize](&mut g),
+        50..=74 => other(Kind::Usual),
         75..=84 => other(Kind::Plain),
         85..=94 => other(Kind::Long),
         _ => other(Kind::Big),
@@ -360,18 +372,84 @@ fn many_repeats(g: &mut Gen) -> Vec<Call> {
     calls
 }
 
-/// Digits, up to more than a count can hold.
+/// Digits, up to more than a count can hold; some have a Key edge, go by another class or by Any, or have no edge, and do not
+/// count. A key that decomposes has a digit behind its first key, which a prefix may take.
 fn counts(g: &mut Gen) -> Vec<Call> {
-    let mut tables = g.tables();
-    tables.classes.truncate(15);
-    tables.classes.insert(0, ClassEntry { class: 0, low: 48, high: 57 });
-    let mut calls = vec![Call::Open(tables), Call::Prefix(0, vec![once(Event::Class(0))], None)];
-    calls.push(Call::Map(0, vec![once(Event::Any)], g.step()));
+    let (low, high) = g.random.pick(&[(48, 57), (48, 54), (48, 54), (0, 65_535)]);
+    let mut tables = with_digits(g.tables());
+    tables.classes[0] = ClassEntry { class: 0, low, high };
+    if g.random.chance(50) {
+        tables.classes.truncate(15);
+        tables.classes.insert(0, ClassEntry { class: 1, low: 55, high: 57 });
+    }
+    let step = g.random.chance(20).then(|| Step { mark: Some(7), ..Step::default() });
+    let mut calls = vec![Call::Open(tables), Call::Prefix(0, vec![once(Event::Class(0))], step)];
+    let others = [
+        Call::Prefix(0, vec![once(Event::Class(1))], None),
+        Call::Prefix(0, path(&[g.digit()]), None),
+        Call::Prefix(0, path(&[27]), None),
+        Call::Map(0, vec![once(Event::Any)], g.step()),
+        Call::Prefix(0, vec![once(Event::Any)], None),
+    ];
+    calls.extend(others.into_iter().filter(|_| g.random.chance(50)));
     calls.push(Call::Map(0, path(&[g.key()]), g.step()));
     for _ in 0..3 {
-        let digits: Vec<u16> = (0..g.random.below(8)).map(|_| 48 + g.random.small(10)).collect();
-        calls.extend(presses(&digits));
+        calls.extend(presses(&g.number()));
+        calls.push(press(55 + g.random.small(3)));
+        if g.random.chance(40) {
+            calls.push(press(32_768 + g.digit()));
+        }
         calls.extend(presses(&some_keys(g, 2)));
+    }
+    calls
+}
+
+/// About 64 digits on the trail, and further ones: 12 where the count passes its limit, and else 7.
+fn counts_on_a_trail(g: &mut Gen) -> Vec<Call> {
+    let repeat = g.random.pick(&[Repeat::Min(0), Repeat::Min(1), Repeat::Max(255)]);
+    let run = Part { repeat, event: Event::Class(0) };
+    let mut calls = vec![Call::Open(with_digits(g.tables()))];
+    calls.push(Call::Map(0, vec![run, once(Event::Key(200))], g.step()));
+    let number = g.number();
+    calls.extend(vec![press(48); about(g, 64) - number.len()]);
+    calls.extend(presses(&number));
+    for _ in 0..5 {
+        let budget = g.random.pick(&[1000, 5000, 65_535]);
+        let key = g.random.pick(&[48, 48, 53, 57, 200, 5]);
+        calls.push(if g.random.chance(10) { Call::Reset } else { Call::Key { key, budget } });
+    }
+    calls
+}
+
+/// Mappings of some digits, where no more pairs can wait or be remembered, or nearly so.
+fn counts_before_pairs(g: &mut Gen) -> Vec<Call> {
+    let digits = |n| vec![once(Event::Class(0)); n];
+    let pairs = g.random.pick(&[1, 2, 4]);
+    let (most, rules) = g.random.pick(&[(64, 1), (256, 0)]);
+    let entry = ModeEntry { unmapped: vec![0; pairs], ..ModeEntry::default() };
+    let tables = Tables { modes: vec![entry], rules: vec![track(0); rules], ..Tables::default() };
+    let mut calls = vec![Call::Open(with_digits(tables))];
+    calls.push(Call::Map(0, digits(5), Step { flag: false, actions: vec![7; pairs], ..g.step() }));
+    calls.push(Call::Map(0, [digits(4), path(&[200])].concat(), g.step()));
+    calls.extend(vec![press(5); about(g, most / pairs as u64 + 1)]);
+    for _ in 0..4 {
+        calls.extend(presses(&g.number()));
+        calls.push(one_of(g, &[Call::Reset, Call::Reset, Call::Pop, press(200)]).clone());
+    }
+    calls
+}
+
+/// Digits that go by Key edges behind a key, until one without an edge gives that key up: then they are tried again, and count.
+fn counts_tried_again(g: &mut Gen) -> Vec<Call> {
+    let way = [&[97][..], &g.number()].concat();
+    let mut calls = vec![Call::Open(with_digits(g.tables())), Call::Prefix(0, vec![once(Event::Class(0))], None)];
+    calls.push(Call::Map(0, path(&[&way[..], &[200]].concat()), g.step()));
+    for _ in 0..3 {
+        let typed = if g.random.chance(70) { way.len() } else { g.random.below(way.len() as u64) as usize };
+        calls.extend(presses(&way[..typed]));
+        let budget = if g.random.chance(50) { 4 + g.random.small(5) } else { 1000 };
+        calls.push(Call::Key { key: g.random.pick(&[5, 5, 53, 97]), budget });
+        calls.push(one_of(g, &[Call::Reset, Call::Pop, press(200)]).clone());
     }
     calls
 }

@@ -1,5 +1,5 @@
 -- The key loop's laws, each stated once; a function's folder hands its paths to them.
-pub mod Rounds
+pub mod Turns
 pub mod Navigators
 pub mod PutBack
 pub mod Weighed

@@ -8,10 +8,11 @@ use native.Mathlib.Omega.{arith}
 use native.Mathlib.Numerals.{add-one}
 use lib.Dec.{ltb}
 use lib.ListN.{length}
-use Rattle.rules.specs.Basics.{accept, refuse, unless}
-use Rattle.rules.specs.KeyLoop.{State, KeyResult, Navigator, InputResult, NeedMore, at, run_hook, after, round, proceed, loop}
+use Rattle.rules.specs.Basics.{Result, accept, refuse, ◌>>=◌, unless}
+use Rattle.rules.specs.KeyLoop.{Shared, Turn, State, KeyResult, Navigator, InputResult, NeedMore, at, run_hook, after, round, proceed, loop}
 use Rattle.rules.proofs.Results.{Always, value}
 use Rattle.keypairs.specs.View.{joined}
+use Rattle.keyloop.specs.View.{turned}
 use Rattle.keyloop.proofs.Navigators.{beside}
 use Rattle.keyloop.proofs.Weighed.{any, Light, Lightly, round_light}
 
@@ -45,11 +46,28 @@ module _ (nav : Navigator ℕ) where
   pub light_on : (k : ℕ) (ks ls : List ℕ) (m m' : State ℕ) → k < 65536 → Light (k ∷ ks) m → accept (ls, m') ≡ round nav k ks m → Light ls m'
   light_on k ks ls m m' h l e = let a : Always any Lightly (accept (ls, m')) = rw e (round_light nav k ks h m l) in value a
 
-  -- what a turn came to: x, and m' after the event hook
-  pub round_is : (k : ℕ) (ks : List ℕ) (m m' : State ℕ) (x : InputResult) → let turn = nav.turn m.shared.tables.classes m.place k in
-      x ≡ turn.result → m' ≡ at turn.place (run_hook turn.event k m.shared) → after nav x k ks m' ≡ round nav k ks m
-  unfolding round
-  round_is k ks m m' x ex em = rw (ex, em)
+  -- a round is its turn, with the event hook, and what follows
+  module _ (k : ℕ) (ks : List ℕ) (m : State ℕ) where
+    abbrev the_turn : Turn ℕ
+    the_turn = nav.turn m.shared.tables.classes m.place k
+
+    round_turned : round nav k ks m ≡ (turned the_turn k m.shared >>= λ r. after nav r.0 k ks r.1)
+    unfolding round
+    round_turned = go (run_hook the_turn.event k m.shared)
+      where
+        done : Result (State ℕ) → Result (InputResult × State ℕ)
+        done x = x >>= λ m. accept (the_turn.result, m)
+
+        go : (x : Result Shared) → (x >>= λ c. after nav the_turn.result k ks (at the_turn.place c))
+            ≡ (done (x >>= λ c. accept (at the_turn.place c)) >>= λ r. after nav r.0 k ks r.1)
+        go (accept c) = refl
+        go (refuse n) = refl
+
+    pub round_is : (x : InputResult) (m' : State ℕ) → accept (x, m') ≡ turned the_turn k m.shared → after nav x k ks m' ≡ round nav k ks m
+    round_is x m' e = rw (round_turned, ← e) refl
+
+    pub round_refused : (n : ℕ) → refuse n ≡ turned the_turn k m.shared → refuse n ≡ round nav k ks m
+    round_refused n e = rw (round_turned, ← e) refl
 
 -- a key that needs more joins the trail
 pub needs_more : (nav : Navigator ℕ) (k : ℕ) (ks : List ℕ) (m : State ℕ) → beside ks (joined k m) ≡ after nav NeedMore k ks m

@@ -9,13 +9,15 @@ use mathlib.Core.List.{List, [], ◌∷◌, ◌++◌}
 use native.Mathlib.Omega.{arith}
 use lib.Dec.{ltb, leb→le}
 use lib.ListN.{length, drop}
-use Rattle.rules.specs.Values.{composed, most_trail, decomposes, first_key, rest_of, default_action, Event, Step}
+use Rattle.rules.specs.Basics.{accept}
+use Rattle.rules.specs.Values.{composed, most_trail, decomposes, first_key, rest_of, default_action, Step}
 use Rattle.rules.specs.Tables.{mode_entry}
-use Rattle.rules.specs.KeyLoop.{Shared, give_all, InputResult, Again, ClearTrail, Consumed, NeedMore, Unmapped, RunStep, RetryAfter, Navigator, State}
-use Rattle.rules.specs.KeyLoop.{run_hook, set_mark, or_default, at, clear_trail, goto_mode, unmapped, step_to, step, after, round}
+use Rattle.rules.specs.KeyLoop.{Shared, give_all, InputResult, Again, ClearTrail, Consumed, NeedMore, Unmapped, RunStep, RetryAfter, Turn, Navigator, State}
+use Rattle.rules.specs.KeyLoop.{set_mark, or_default, at, clear_trail, goto_mode, unmapped, step_to, step, after, round}
 use Rattle.rules.proofs.Weights.{weight_by, weight_cons, weight_nil, weight_append, weight_most, each_key}
-use Rattle.rules.proofs.Results.{Always, accepts, always_bind, unless_so, if_so, give_all_keeps}
+use Rattle.rules.proofs.Results.{Always, accepts, value, always_bind, unless_so, if_so, give_all_keeps, hook_keeps}
 use Rattle.rules.proofs.Rounds.{goto_keeps}
+use Rattle.keyloop.specs.View.{turned}
 
 -- a key of 16 bits decomposes once at most
 abbrev pub splits : ℕ → ℕ
@@ -82,11 +84,12 @@ cleared ks m e h = record { all = rw e (omega (arith, weight_nil splits)); few =
 abbrev pub Lightly : List ℕ × State ℕ → Type 0
 Lightly r = Light r.0 r.1
 
--- the event hook leaves the trail as it is
-pub hooked : (o : Option Event) (k : ℕ) (c : Shared) → (run_hook o k c).trail ≡ c.trail
-unfolding run_hook
-hooked none k c = refl
-hooked (some e) k c = refl
+-- a turn, with the event hook, leaves the trail as it is
+pub turned_trail : (t : Turn ℕ) (k : ℕ) (c : Shared) (x : InputResult) (m : State ℕ) → accept (x, m) ≡ turned t k c → m.shared.trail ≡ c.trail
+turned_trail t k c x m e =
+    let a : Always any (λ r. r.1.shared.trail ≡ c.trail) (turned t k c)
+    = always_bind (always_bind (hook_keeps tt (λ _ _ tr. tr ≡ c.trail) t.event k c refl) (λ c₁ h. accepts h)) (λ m h. accepts h) in
+    value (rw (← e) at a)
 
 module _ (nav : Navigator ℕ) (k : ℕ) (ks : List ℕ) (small : k < 65536) where
   after_light : (x : InputResult) (m : State ℕ) → Light (k ∷ ks) m → Always any Lightly (after nav x k ks m)
@@ -121,4 +124,5 @@ module _ (nav : Navigator ℕ) (k : ℕ) (ks : List ℕ) (small : k < 65536) whe
   unfolding round
   round_light m h =
       let turn = nav.turn m.shared.tables.classes m.place k in
-      after_light turn.result (at turn.place (run_hook turn.event k m.shared)) (record { all = rw (hooked turn.event k m.shared) h.all; few = h.few })
+      always_bind (hook_keeps tt (λ _ _ tr. tr ≡ m.shared.trail) turn.event k m.shared refl)
+      (λ c e. after_light turn.result (at turn.place c) (record { all = rw e h.all; few = h.few }))

@@ -1,6 +1,7 @@
 -- What a round and a key mean, in the values of the rules.
 use Rattle.std.specs.Prelude
 use Rattle.std.specs.Prelude.{ℕ}
+use Rattle.rules.specs.Basics.{Result, accept, ◌>>=◌}
 use Rattle.rules.specs.KeyLoop as key
 use Rattle.rules.specs.Calls as c
 use Rattle.rules.specs.Graph as g
@@ -10,6 +11,7 @@ use Rattle.keyparts.specs.View.{graph_of, edge_words, follow_links}
 use Rattle.keyparts.specs.declared.graph.Graph.{Graph}
 use Rattle.keyparts.specs.declared.index.Index.{Index}
 use Rattle.keytables.specs.View.{tables_of}
+use Rattle.keypairs.specs.View.{hooked}
 use Rattle.keypairs.specs.declared.live.Live.{Live}
 use Rattle.keyloop.specs.declared.turn.InputResult.{InputResult}
 use Rattle.keyloop.specs.declared.turn.InputResult.TheVariants.{Again, ClearTrail, Consumed, NeedMore, Unmapped, RunStep, RetryAfter}
@@ -40,6 +42,10 @@ result_by (RetryAfter s) = key.RetryAfter (step_of s)
 -- the turn of a key at the live state's place
 abbrev pub turn_of : IndexedMap → ℕ → Live → key.Turn ℕ
 turn_of m k l = (navigator_of m).turn (tables_of m.tables.now).classes l.state.place k
+
+-- a turn from there, after the event hook: what is to be done, and the state, whose place is the one come to
+abbrev pub turned : key.Turn ℕ → ℕ → key.Shared → Result (key.InputResult × key.State ℕ)
+turned x k c = do m ← hooked x.event k (key.at x.place c); accept (x.result, m)
 
 -- ---- a key
 

@@ -5,7 +5,7 @@ ghost use Rattle.keyvalues.specs.View.{told};
 ghost use Rattle.keytables.specs.View.{tables_of};
 ghost use Rattle.keypairs.specs.View.{live_of};
 ghost use Rattle.keyloop.specs.Stack.{keys_of, Room};
-ghost use Rattle.keyloop.specs.View.{navigator_of, key_of};
+ghost use Rattle.keyloop.specs.View.{navigator_of, result_by, key_of};
 
 use crate::stack::Stack;
 use crate::turn;
@@ -41,7 +41,23 @@ fn round(map: &IndexedMap, live: &mut Live, stack: &mut Stack, key: u16) -> Resu
     requires { Room key (keys_of stack.old) (take live.old.state.trailed live.old.trail) }
     ensures { told (λ _. (keys_of stack.new, live_of (tables_of map.now.tables.now) live.new)) result ≡ rules.round (navigator_of map.now) key (keys_of stack.old) (live_of (tables_of map.now.tables.now) live.old) }
 {
-    match turn::turn(map, live, key) {
+    let input_result = turn::turn(map, live, key)?;
+    after(map, live, stack, key, input_result)
+}
+
+// What a turn came to is done.
+#[tactic(auto, unfolding(rules::specs::KeyLoop::after))]
+fn after(
+    map: &IndexedMap,
+    live: &mut Live,
+    stack: &mut Stack,
+    key: u16,
+    input_result: InputResult,
+) -> Result<(), Refusal>
+    requires { Room key (keys_of stack.old) (take live.old.state.trailed live.old.trail) }
+    ensures { told (λ _. (keys_of stack.new, live_of (tables_of map.now.tables.now) live.new)) result ≡ rules.after (navigator_of map.now) (result_by input_result) key (keys_of stack.old) (live_of (tables_of map.now.tables.now) live.old) }
+{
+    match input_result {
         InputResult::Again => {
             stack.push(key);
             Ok(())

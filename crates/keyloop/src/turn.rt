@@ -2,18 +2,18 @@
 ghost use Rattle.std.specs.Prelude.{◌≡◌};
 ghost use Rattle.rules.specs.Values as v;
 ghost use Rattle.rules.specs.Calls as c;
-ghost use Rattle.rules.specs.KeyLoop as rules;
-ghost use Rattle.keyvalues.specs.View.{node_of};
+ghost use Rattle.keyvalues.specs.View.{told, node_of};
 ghost use Rattle.keyparts.specs.View.{graph_of};
 ghost use Rattle.keytables.specs.View.{tables_of};
 ghost use Rattle.keypairs.specs.View.{live_of, shared_of};
-ghost use Rattle.keyloop.specs.View.{result_by, turn_of};
+ghost use Rattle.keyloop.specs.View.{result_by, turn_of, turned};
 
 use crate::key::IndexedMap;
 use keypairs::live::Live;
 use keyparts::follow::FollowResult;
 use keyparts::graph::Graph;
 use keyvalues::node::{Node, NodeAction};
+use keyvalues::refusal::Refusal;
 use keyvalues::step::Step;
 
 #[derive(Clone, Copy, Debug, PartialEq, Eq)]
@@ -59,23 +59,23 @@ fn land(node: Node, to: u16) -> InputResult
     }
 }
 
-#[tactic(auto, unfolding(crate::specs::View::link_navigator, rules::specs::Calls::turn_by, rules::specs::KeyLoop::run_hook))]
-pub(crate) fn turn(map: &IndexedMap, live: &mut Live, key: u16) -> InputResult
-    ensures told { result_by result ≡ (turn_of map.now key live.old).result }
-    ensures left { let x = turn_of map.now key live.old in live_of (tables_of map.now.tables.now) live.new ≡ rules.at x.place (rules.run_hook x.event key (shared_of (tables_of map.now.tables.now) live.old)) }
+// The key is followed and the node come to; by an event its hook runs next, and may refuse the key.
+#[tactic(auto, using(crate::proofs::Turns::nowhere))]
+pub(crate) fn turn(map: &IndexedMap, live: &mut Live, key: u16) -> Result<InputResult, Refusal>
+    ensures { told (λ x. (result_by x, live_of (tables_of map.now.tables.now) live.new)) result ≡ turned (turn_of map.now key live.old) key (shared_of (tables_of map.now.tables.now) live.old) }
 {
     let place = live.state.place;
     let graph = map.indexed.graph;
     match map.indexed.follow(map.tables.classes(), place, key) {
         FollowResult::Successor(event, to) => {
             live.come_to(to);
-            live.hook(event, key);
-            arrive(graph, graph.node(to), to)
+            live.hook(event, key)?;
+            Ok(arrive(graph, graph.node(to), to))
         }
         FollowResult::Fallthrough(to) => {
             live.come_to(to);
-            land(graph.node(to), to)
+            Ok(land(graph.node(to), to))
         }
-        FollowResult::NoSuccessor => InputResult::Unmapped,
+        FollowResult::NoSuccessor => Ok(InputResult::Unmapped),
     }
 }

@@ -91,6 +91,12 @@ abbrev pub pop_of : Prelude.Option Pair → c.Answer
 pop_of (Some p) = c.Popped (pair_by p)
 pop_of None = c.Nothing
 
+-- ---- what a round does
+
+-- the hook of the event that was gone by, if any: 12 the count would pass 65,535
+abbrev pub hooked : Option v.Event → ℕ → key.State ℕ → Result (key.State ℕ)
+hooked o k m = do c₁ ← key.run_hook o k m.shared; accept (key.at m.place c₁)
+
 -- a key joins the trail: 7 where 64 keys are on it already
 abbrev pub joined : ℕ → key.State ℕ → Result (key.State ℕ)
 joined k m =

@@ -1,10 +1,11 @@
 // The context that a key gathers on its way: a count from digits and a mark from Any.
-ghost use Rattle.std.specs.Prelude.{◌≡◌, ◌+◌, ◌-◌, ◌*◌, ◌≤◌, min};
+ghost use Rattle.std.specs.Prelude.{◌≡◌};
 ghost use Rattle.rules.specs.Values as v;
-ghost use Rattle.keyvalues.specs.View.{event_of};
+ghost use Rattle.keyvalues.specs.View.{told, event_of};
 ghost use Rattle.keypairs.specs.View.{context_of, chosen_of};
 
 use keyvalues::event::EdgeEvent;
+use keyvalues::refusal::Refusal;
 use std::mem;
 
 #[repr(C)]
@@ -14,14 +15,6 @@ pub struct Context {
     pub mark: u16,
 }
 
-// The count with a digit more, up to the largest value.
-fn counted(count: u16, key: u16) -> u16
-    requires { 48 ≤ key }
-    ensures { result ≡ min 65535 (count * 10 + (key - 48)) }
-{
-    count.saturating_mul(10).saturating_add(key - 48)
-}
-
 fn chosen(over: u16, old: u16) -> u16
     ensures { result ≡ chosen_of over old }
 {
@@ -29,18 +22,25 @@ fn chosen(over: u16, old: u16) -> u16
 }
 
 impl Context {
+    // The count step: the count with a digit more, unless that would pass the largest value.
+    #[tactic(auto, unfolding(rules::specs::Values::counted))]
+    fn counted(self, digit: u16) -> Result<Context, Refusal>
+        ensures { told context_of result ≡ v.counted digit (context_of self) }
+    {
+        let tenfold = self.count.checked_mul(10).ok_or(Refusal::CountOverflow)?;
+        let count = tenfold.checked_add(digit).ok_or(Refusal::CountOverflow)?;
+        Ok(Context { count, ..self })
+    }
+
     // The event hook: a digit counts for class 0, and Any sets the mark.
     #[tactic(auto, unfolding(rules::specs::Values::hook))]
-    pub fn event(self, event: EdgeEvent, key: u16) -> Context
-        ensures { context_of result ≡ v.hook (event_of event) key (context_of self) }
+    pub fn event(self, event: EdgeEvent, key: u16) -> Result<Context, Refusal>
+        ensures { told context_of result ≡ v.hook (event_of event) key (context_of self) }
     {
         match event {
-            EdgeEvent::Class(0) if 48 <= key && key <= 57 => Context {
-                count: counted(self.count, key),
-                ..self
-            },
-            EdgeEvent::Any => Context { mark: key, ..self },
-            _ => self,
+            EdgeEvent::Class(0) if 48 <= key && key <= 57 => self.counted(key - 48),
+            EdgeEvent::Any => Ok(Context { mark: key, ..self }),
+            _ => Ok(self),
         }
     }
 

@@ -4,13 +4,12 @@ ghost use Rattle.std.specs.Prelude.{◌≡◌, List, [], ◌++◌, ◌+◌, ◌�
 ghost use Rattle.std.proofs.Math.Option.{some};
 ghost use Rattle.rules.specs.Tables.{Tables};
 ghost use Rattle.rules.specs.KeyLoop as key;
-ghost use Rattle.rules.specs.KeyLoop.{at, run_hook};
 ghost use Rattle.rules.specs.Values.{Binding};
 ghost use Rattle.rules.specs.Graph.{Graph};
 ghost use Rattle.rules.specs.Calls.{graph_kind, fresh, call, mode_call, Pop, Repeats};
-ghost use Rattle.keyvalues.specs.View.{told, event_of, maybe_of, said_of};
+ghost use Rattle.keyvalues.specs.View.{told, event_of, maybe_of, said_of, settled};
 ghost use Rattle.keytables.specs.View.{tables_of};
-ghost use Rattle.keypairs.specs.View.{context_of, pair_by, trackers_of, broke, over_of, fetched_at, live_of, shared_of, machine_by, joined, pop_of};
+ghost use Rattle.keypairs.specs.View.{context_of, pair_by, trackers_of, broke, over_of, fetched_at, live_of, shared_of, machine_by, hooked, joined, pop_of};
 
 use crate::context::Context;
 use crate::pair::Pair;
@@ -76,11 +75,12 @@ impl Live {
     }
 
     // The event hook, after a key went by the event.
-    #[tactic(auto, unfolding(rules::specs::KeyLoop::run_hook))]
-    pub fn hook(&mut self, event: EdgeEvent, key: u16)
-        ensures { (t : Tables) → live_of t self.new ≡ at self.old.state.place (run_hook (some (event_of event)) key (shared_of t self.old)) }
+    #[tactic(auto, unfolding(rules::specs::KeyLoop::run_hook, keyvalues::specs::View::settled))]
+    pub fn hook(&mut self, event: EdgeEvent, key: u16) -> Result<(), Refusal>
+        ensures { (t : Tables) → (live_of t self.new, said_of result) ≡ settled (live_of t self.old) (hooked (some (event_of event)) key (live_of t self.old)) }
     {
-        self.state.context = self.state.context.event(event, key);
+        self.state.context = self.state.context.event(event, key)?;
+        Ok(())
     }
 
     // A pair goes to the sequences by the rules of the mode, and then behind the queue.
@@ -154,9 +154,10 @@ impl Live {
         self.state.trailed = 0;
     }
 
-    // The key joins the trail. A trail that is full is left as it is.
+    // The key joins the trail.
+    #[tactic(auto, unfolding(keyvalues::specs::View::settled))]
     pub fn join_trail(&mut self, key: u16) -> Result<(), Refusal>
-        ensures { (t : Tables) → told (λ _. live_of t self.new) result ≡ joined key (live_of t self.old) }
+        ensures { (t : Tables) → (live_of t self.new, said_of result) ≡ settled (live_of t self.old) (joined key (live_of t self.old)) }
     {
         let trailed = list::append(&mut self.trail, self.state.trailed, key);
         self.state.trailed = trailed.ok_or(Refusal::TrailFull)?;

@@ -4,3 +4,4 @@ pub mod Lists
 pub mod Nodes
 pub mod Ranges
 pub mod Maps
+pub mod Settled

@@ -9,7 +9,7 @@ use Rattle.rules.specs.Tables.{ClassEntry}
 use Rattle.rules.specs.Graph as g
 use Rattle.rules.specs.Calls as calls
 use Rattle.keyvalues.specs.declared.refusal.Refusal.{Refusal}
-use Rattle.keyvalues.specs.declared.refusal.Refusal.TheVariants.{OutOfRange, NodesFull, EdgesFull, OtherMode, QueueFull, SequenceFull, TrailFull, NoBudget, Malformed, OutputFull, CallsFull}
+use Rattle.keyvalues.specs.declared.refusal.Refusal.TheVariants.{OutOfRange, NodesFull, EdgesFull, OtherMode, QueueFull, SequenceFull, TrailFull, NoBudget, Malformed, OutputFull, CallsFull, CountOverflow}
 use Rattle.keyvalues.specs.declared.event.EdgeEvent.{EdgeEvent}
 use Rattle.keyvalues.specs.declared.event.EdgeEvent.TheVariants.{Key, Class, Any, Fallthrough}
 use Rattle.keyvalues.specs.declared.event.EdgeRepeat.{EdgeRepeat}
@@ -94,6 +94,7 @@ number_of NoBudget = 8
 number_of Malformed = 9
 number_of OutputFull = 10
 number_of CallsFull = 11
+number_of CountOverflow = 12
 
 -- what a call came to, where its value means what f says
 abbrev pub told : {A B : Type 0} → (A → B) → Prelude.Result A Refusal → Result B

@@ -16,6 +16,7 @@ pub enum Refusal {
     Malformed = 9,
     OutputFull = 10,
     CallsFull = 11,
+    CountOverflow = 12,
 }
 
 impl Refusal {

@@ -17,7 +17,7 @@ use Rattle.rules.specs.Numbers.{number, open-Numbers}
 use Rattle.rules.specs.MapFile.{read_map, open-MapFile}
 use Rattle.rules.specs.Run.{pair_bytes, run, code_of, output_of, keyplay, open-Run}
 use Rattle.rules.specs.Writing.{file_of, write_call, open-Writing}
-use Rattle.rules.proofs.Table.{◌⇒◌, once, one, two, does, key, rounds, gives, a, b, j, q, r, digits, tracking, doubles, Row, row, try_all, step_held, outcome}
+use Rattle.rules.proofs.Table.{◌⇒◌, once, one, two, does, key_within, key, rounds, gives, a, b, j, q, r, z, digits, tracking, doubles, Row, row, try_all, step_held, outcome}
 
 -- ---- runs of calls
 
@@ -122,16 +122,122 @@ first_membership = row (
     ∷ Pop ⇒ gives 3 0 0
     ∷ [])
 
--- 70000 is counted as 65,535
-abbrev pub the_count_saturates : Row
-the_count_saturates = row (
+-- of 70000 the last digit is refused, and the count stays 7000. 65,536 is one too many, and 65,535 is counted: the digit that
+-- passed it is as if it had not been pressed. Leading zeros change nothing, and a zero behind 65,535 is refused
+abbrev pub the_count_overflows : Row
+the_count_overflows = row (
     Open digits ⇒ Accepted
     ∷ Prefix 0 (one (Class 0)) none ⇒ Accepted
     ∷ Map 0 (one (Key r)) (does 7) ⇒ Accepted
     ∷ key 55 ⇒ rounds 1
-    ∷ replicate 4 (key 48 ⇒ rounds 1)
-    ++ (key r ⇒ rounds 1
+    ∷ replicate 3 (key 48 ⇒ rounds 1)
+    ++ (key 48 ⇒ PressRefused 12 1
+    ∷ key r ⇒ rounds 1
+    ∷ Pop ⇒ gives 7 7000 0
+    ∷ replicate 9 (key 48 ⇒ rounds 1)
+    ++ (key 54 ⇒ rounds 1
+    ∷ key 53 ⇒ rounds 1
+    ∷ key 53 ⇒ rounds 1
+    ∷ key 51 ⇒ rounds 1
+    ∷ key 54 ⇒ PressRefused 12 1
+    ∷ key 53 ⇒ rounds 1
+    ∷ key 48 ⇒ PressRefused 12 1
+    ∷ key r ⇒ rounds 1
     ∷ Pop ⇒ gives 7 65535 0
+    ∷ Pop ⇒ Nothing
+    ∷ [])))
+
+-- with 65,535 counted, a digit that goes by its Key edge or by another class is no digit of the count
+abbrev pub digits_that_do_not_count : Row
+digits_that_do_not_count = row (
+    Open (record { classes = record { class = 1; low = 50; high = 50 } ∷ record { class = 0; low = 48; high = 57 } ∷ []; modes = []; rules = [] }) ⇒ Accepted
+    ∷ Prefix 0 (one (Class 0)) none ⇒ Accepted
+    ∷ Prefix 0 (one (Class 1)) none ⇒ Accepted
+    ∷ Prefix 0 (one (Key 52)) none ⇒ Accepted
+    ∷ Map 0 (one (Key r)) (does 7) ⇒ Accepted
+    ∷ key 54 ⇒ rounds 1
+    ∷ key 53 ⇒ rounds 1
+    ∷ key 53 ⇒ rounds 1
+    ∷ key 51 ⇒ rounds 1
+    ∷ key 53 ⇒ rounds 1
+    ∷ key 50 ⇒ rounds 1
+    ∷ key 52 ⇒ rounds 1
+    ∷ key 48 ⇒ PressRefused 12 1
+    ∷ key r ⇒ rounds 1
+    ∷ Pop ⇒ gives 7 65535 0
+    ∷ [])
+
+-- 64 digits are on the trail and all may need more: a zero with a count of 65,535 is 12, and with one of 0 it is 7
+abbrev pub an_overflow_before_a_full_trail : Row
+an_overflow_before_a_full_trail = row (
+    Open digits ⇒ Accepted
+    ∷ Map 0 (record { repeat = Min 0; event = Class 0 } ∷ once (Key r) ∷ []) (does 7) ⇒ Accepted
+    ∷ key 48 ⇒ rounds 2
+    ∷ replicate 58 (key 48 ⇒ rounds 1)
+    ++ (key 54 ⇒ rounds 1
+    ∷ key 53 ⇒ rounds 1
+    ∷ key 53 ⇒ rounds 1
+    ∷ key 51 ⇒ rounds 1
+    ∷ key 53 ⇒ rounds 1
+    ∷ key 48 ⇒ PressRefused 12 1
+    ∷ key r ⇒ rounds 1
+    ∷ Pop ⇒ gives 7 65535 0
+    ∷ key 48 ⇒ rounds 2
+    ∷ replicate 63 (key 48 ⇒ rounds 1)
+    ++ (key 48 ⇒ PressRefused 7 1
+    ∷ [])))
+
+-- 7000 counts, and the fifth digit would give 7. It is refused before the pair is given, and so is every other digit. With 256
+-- pairs waiting it is 12 still, where r, which gives 8, is 5
+abbrev pub an_overflow_gives_nothing : Row
+an_overflow_gives_nothing = row (
+    Open digits ⇒ Accepted
+    ∷ Map 0 (once (Class 0) ∷ once (Class 0) ∷ once (Class 0) ∷ once (Class 0) ∷ once (Class 0) ∷ []) (does 7) ⇒ Accepted
+    ∷ Map 0 (once (Class 0) ∷ once (Class 0) ∷ once (Class 0) ∷ once (Class 0) ∷ once (Key r) ∷ []) (does 8) ⇒ Accepted
+    ∷ key 55 ⇒ rounds 1
+    ∷ replicate 3 (key 48 ⇒ rounds 1)
+    ++ (key 48 ⇒ PressRefused 12 1
+    ∷ Pop ⇒ Nothing
+    ∷ key 57 ⇒ PressRefused 12 1
+    ∷ Pop ⇒ Nothing
+    ∷ key r ⇒ rounds 1
+    ∷ Pop ⇒ gives 8 7000 0
+    ∷ Pop ⇒ Nothing
+    ∷ replicate 256 (key q ⇒ rounds 1)
+    ++ (key 55 ⇒ rounds 1
+    ∷ replicate 3 (key 48 ⇒ rounds 1)
+    ++ (key 48 ⇒ PressRefused 12 1
+    ∷ key r ⇒ PressRefused 5 1
+    ∷ []))))
+
+-- 64 pairs are remembered, and the fifth digit would give a 65th: behind 7000 a zero is 12, where q, which gives one too, is 6
+abbrev pub an_overflow_before_a_full_sequence : Row
+an_overflow_before_a_full_sequence = row (
+    Open (record { classes = digits.classes; modes = []; rules = tracking.rules }) ⇒ Accepted
+    ∷ Map 0 (once (Class 0) ∷ once (Class 0) ∷ once (Class 0) ∷ once (Class 0) ∷ once (Class 0) ∷ []) (does 7) ⇒ Accepted
+    ∷ replicate 64 (key q ⇒ rounds 1)
+    ++ (key 55 ⇒ rounds 1
+    ∷ replicate 3 (key 48 ⇒ rounds 1)
+    ++ (key 48 ⇒ PressRefused 12 1
+    ∷ key q ⇒ PressRefused 6 1
+    ∷ [])))
+
+-- The digits after q go by Key edges until z gives q up: then 7, 0, 0, 0 and 0 are tried again and counted, and the last is 12,
+-- in round 6. With a budget of 5 it is 8. Refused, the key has given no pair for q, the trail is as it was, and nothing counts
+abbrev pub an_overflow_of_keys_tried_again : Row
+an_overflow_of_keys_tried_again = row (
+    Open digits ⇒ Accepted
+    ∷ Prefix 0 (one (Class 0)) none ⇒ Accepted
+    ∷ Map 0 (once (Key q) ∷ once (Key 55) ∷ once (Key 48) ∷ once (Key 48) ∷ once (Key 48) ∷ once (Key 48) ∷ once (Key r) ∷ []) (does 7) ⇒ Accepted
+    ∷ key q ⇒ rounds 1
+    ∷ key 55 ⇒ rounds 1
+    ∷ replicate 4 (key 48 ⇒ rounds 1)
+    ++ (key z ⇒ PressRefused 12 6
+    ∷ key_within 5 z ⇒ PressRefused 8 5
+    ∷ Pop ⇒ Nothing
+    ∷ key r ⇒ rounds 1
+    ∷ Pop ⇒ gives 7 0 0
+    ∷ Pop ⇒ Nothing
     ∷ []))
 
 -- both actions of a step carry the context of one take; its own mark comes before the key's
@@ -267,7 +373,12 @@ examples =
     ∷ the_flag_of_a_step_that_a_key_leads_to
     ∷ key_before_class
     ∷ first_membership
-    ∷ the_count_saturates
+    ∷ the_count_overflows
+    ∷ digits_that_do_not_count
+    ∷ an_overflow_before_a_full_trail
+    ∷ an_overflow_gives_nothing
+    ∷ an_overflow_before_a_full_sequence
+    ∷ an_overflow_of_keys_tried_again
     ∷ one_take_for_all_actions
     ∷ the_rules_of_the_entered_mode
     ∷ the_unmapped_list_of_the_nodes_mode

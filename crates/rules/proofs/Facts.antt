@@ -130,10 +130,10 @@ pub prefix_refuses : (mode : ℕ) (path : List Part) (os : Option Step) (s : Mac
 unfolding some_of
 prefix_refuses mode path os s = among (1 ∷ 2 ∷ 3 ∷ 4 ∷ 11 ∷ []) (prefix_always tt tt tt tt tt (λ _. Unit {0}) (λ _ _ _ _ _. tt) mode path os s tt)
 
--- a key, of any machine: 8, 6, 5, 7
-pub key_refuses : (𝓚 : Kind) (i : Input) (s : Machine 𝓚) → RefusedAmong (8 ∷ 6 ∷ 5 ∷ 7 ∷ []) (key_call 𝓚 i s).result
+-- a key, of any machine: 8, 12, 6, 5, 7
+pub key_refuses : (𝓚 : Kind) (i : Input) (s : Machine 𝓚) → RefusedAmong (8 ∷ 12 ∷ 6 ∷ 5 ∷ 7 ∷ []) (key_call 𝓚 i s).result
 unfolding some_of
-key_refuses 𝓚 i s = among (8 ∷ 6 ∷ 5 ∷ 7 ∷ []) (key_always 𝓚 tt tt tt tt i s)
+key_refuses 𝓚 i s = among (8 ∷ 12 ∷ 6 ∷ 5 ∷ 7 ∷ []) (key_always 𝓚 tt tt tt tt tt i s)
 
 -- repeat, of any machine: 1, 5
 pub repeat_refuses : (𝓚 : Kind) (q : ℕ) (over : Option Context) (s : Machine 𝓚) → RefusedAmong (1 ∷ 5 ∷ []) (repeat_call 𝓚 q over s)
@@ -166,12 +166,12 @@ write_refuses t xs lent = among (10 ∷ []) {X = Whatever} (always_unless (leb (
 
 -- a run's numbers: a map file's, the keys', and 10
 abbrev pub run_numbers : List ℕ
-run_numbers = 9 ∷ 1 ∷ 2 ∷ 3 ∷ 4 ∷ 11 ∷ 8 ∷ 6 ∷ 5 ∷ 7 ∷ 10 ∷ []
+run_numbers = 9 ∷ 1 ∷ 2 ∷ 3 ∷ 4 ∷ 11 ∷ 8 ∷ 12 ∷ 6 ∷ 5 ∷ 7 ∷ 10 ∷ []
 
 -- a run: these
 pub run_refuses : (map keys : List ℕ) (budget lent : ℕ) → RefusedAmong run_numbers (run map keys budget lent)
 unfolding some_of
-run_refuses map keys budget lent = among run_numbers (run_always tt tt tt tt tt tt tt tt tt tt tt map keys budget lent)
+run_refuses map keys budget lent = among run_numbers (run_always tt tt tt tt tt tt tt tt tt tt tt tt map keys budget lent)
 
 -- the bytes written, 0 if refused
 abbrev pub length_of : Result (List Pair) → ℕ

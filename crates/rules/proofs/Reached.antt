@@ -49,7 +49,7 @@ module _ (𝓚 : Kind) where
   pub key_map : (i : Input) (s : Machine 𝓚) → let r = key_call 𝓚 i s in SameMap s (pressed 𝓚 s r.rounds r.result).0
   key_map i s =
       pressed_keeps (SameMap s) s _ (record { tables = refl; bindings = refl; kept = refl }) (λ m e. record { tables = e; bindings = refl; kept = refl })
-      (key_always 𝓚 tt tt tt tt i s)
+      (key_always 𝓚 tt tt tt tt tt i s)
 
   pub popped_stays : (s : Machine 𝓚) (ps : List Pair) → Stays s (popped 𝓚 s ps).0
   unfolding popped
@@ -146,7 +146,7 @@ rest_16 k h = omega arith
 
 pub round_keeps : {P : Type 0} (nav : Navigator P) (t : Tables) (k : ℕ) (ks : List ℕ) (m : State P) → Bounded t 130 most_trail Is16 (k ∷ ks) m
     → Always any_number (λ r. Bounded t 130 most_trail Is16 r.0 r.1) (round nav k ks m)
-round_keeps nav t = round_bounded nav tt tt tt t 130 most_trail (omega arith) Is16 (omega arith) rest_16
+round_keeps nav t = round_bounded nav tt tt tt tt t 130 most_trail (omega arith) Is16 (omega arith) rest_16
 
 module _ (𝓚 : Kind) where
   call_short : (s : Machine 𝓚) (c : Call) → KeyIs16 c → Short s.state.shared.trail → Short (call 𝓚 s c).0.state.shared.trail
@@ -157,7 +157,7 @@ module _ (𝓚 : Kind) where
   call_short s (Prefix mode path os) k h = rw (bound_state 𝓚 (Prefixes mode path os) s (unless (prefix_valid mode path os) 1 (𝓚.prefix_in mode path os s.bindings))) h
   call_short s (Press i) k h =
       pressed_keeps 𝓚 (λ x. Short x.state.shared.trail) s _ h (λ m b. (b.trails, b.waits))
-      (loop_bounded (navigate 𝓚 s) tt tt tt s.state.shared.tables 130 most_trail (omega arith) Is16 (omega arith) rest_16 tt i.budget 0 (i.key ∷ []) s.state (begins_bounded i.key s.state k h))
+      (loop_bounded (navigate 𝓚 s) tt tt tt tt s.state.shared.tables 130 most_trail (omega arith) Is16 (omega arith) rest_16 tt i.budget 0 (i.key ∷ []) s.state (begins_bounded i.key s.state k h))
   call_short s Pop k h = rw (popped_stays 𝓚 s s.state.shared.queue).1 h
   call_short s (Repeats q over) k h = rw (settled_stays 𝓚 s (repeat_always 𝓚 tt tt q over s)).1 h
   call_short s Reset k h = rw (settled_stays 𝓚 s (reset_always 𝓚 tt tt s)).1 h

@@ -46,13 +46,13 @@ module _ (𝓚 : Kind) {N : ℕ → Bool} where
   unfolding keep
   keep_always eleven x s b = always_unless (ltb (length s.kept) most_kept) 11 eleven (accepts (refl, refl))
 
-  pub key_always : T (N 8) → T (N 6) → T (N 5) → T (N 7) → (i : Input) (s : Machine 𝓚)
+  pub key_always : T (N 8) → T (N 12) → T (N 6) → T (N 5) → T (N 7) → (i : Input) (s : Machine 𝓚)
       → Always N (λ m. m.shared.tables ≡ s.state.shared.tables) (key_call 𝓚 i s).result
   unfolding key_call input_key
-  key_always eight six five seven i s =
+  key_always eight twelve six five seven i s =
       let tr = s.state.shared.trail in
       always_more (λ m h. h.tables)
-      (loop_bounded (navigate 𝓚 s) six five seven s.state.shared.tables (weight (i.key ∷ []) + weight tr) (most_trail + length tr) (omega arith) (λ k. Unit {0}) tt (λ k h. tt) eight i.budget 0 (i.key ∷ []) s.state
+      (loop_bounded (navigate 𝓚 s) twelve six five seven s.state.shared.tables (weight (i.key ∷ []) + weight tr) (most_trail + length tr) (omega arith) (λ k. Unit {0}) tt (λ k h. tt) eight i.budget 0 (i.key ∷ []) s.state
       (record { tables = refl; weighs = omega arith; trails = omega arith; tries = (tt, tt); waits = each_key (λ k. tt) tr }))
 
   pub repeat_always : T (N 1) → T (N 5) → (q : ℕ) (over : Option Context) (s : Machine 𝓚) → Always N (Stays s) (repeat_call 𝓚 q over s)
@@ -211,12 +211,12 @@ module _ {N : ℕ → Bool} (nine : T (N 9)) (one : T (N 1)) where
 
 -- ---- the run
 
-module _ {N : ℕ → Bool} (eight : T (N 8)) (six : T (N 6)) (five : T (N 5)) (seven : T (N 7)) (ten : T (N 10)) where
+module _ {N : ℕ → Bool} (eight : T (N 8)) (twelve : T (N 12)) (six : T (N 6)) (five : T (N 5)) (seven : T (N 7)) (ten : T (N 10)) where
   play_always : (budget room : ℕ) (ks : List ℕ) (s : Machine graph_kind) (out : List Pair) → Always N Whatever (play_keys budget room ks s out)
   unfolding play_keys
   play_always budget room [] s out = accepts tt
   play_always budget room (k ∷ ks) s out =
-      always_bind (key_always graph_kind eight six five seven (record { key = k; budget = budget }) s)
+      always_bind (key_always graph_kind eight twelve six five seven (record { key = k; budget = budget }) s)
       (λ m _. always_unless (leb (length (pair_bytes (out ++ m.shared.queue))) room) 10 ten (play_always budget room ks (emptied s m) (out ++ m.shared.queue)))
 
   keys_always : T (N 9) → (most : ℕ) (bs : List ℕ) → Always N Whatever (numbers_in most bs)

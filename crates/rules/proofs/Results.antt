@@ -1,15 +1,17 @@
--- What is always so of a result: if it is accepted, of the value, and if it is refused, of the number. So of a push: it is
--- refused with 6 or 5 alone, and an accepted one leaves the tables, the entered mode and the trail as they were.
+-- What is always so of a result: if it is accepted, of the value, and if it is refused, of the number. So of a push, which is
+-- refused with 6 or 5 alone, and of the event hook, which is refused with 12 alone: accepted, both leave the tables, the entered
+-- mode and the trail as they were.
 use Rattle.std.specs.Prelude.{if◌then◌else◌}
 use Prim.Native.Nat.{ℕ}
 use mathlib.Core.Bool.{Bool, true, false}
+use mathlib.Core.Option.{Option, none, some}
 use mathlib.Core.List.{List, [], ◌∷◌}
 use lib.Dec.{T, ltb}
 use lib.ListN.{length, get_or}
 use Rattle.rules.specs.Basics.{Result, accept, refuse, ◌>>=◌, unless}
-use Rattle.rules.specs.Values.{most_queued, most_tracked, Context, Pair}
+use Rattle.rules.specs.Values.{most_queued, most_tracked, Event, Key, Class, Any, Fallthrough, Context, counted, hook, Pair}
 use Rattle.rules.specs.Tables.{Status, Atom, Break, Ignore, Restart, Track, status_of, Rule, matches, Tables}
-use Rattle.rules.specs.KeyLoop.{Tracker, no_tracker, track, Shared, apply_rule, apply_rules, push, push_all, give_all}
+use Rattle.rules.specs.KeyLoop.{Tracker, no_tracker, track, Shared, apply_rule, apply_rules, push, push_all, give_all, run_hook}
 
 pub data Always {A : Type 0} (N : ℕ → Bool) (X : A → Type 0) : Result A → Type 0 where
   accepts : {a : A} → X a → Always N X (accept a)
@@ -67,7 +69,7 @@ module _ {N : ℕ → Bool} (six : T (N 6)) where
   rules_always [] mode p ts = accepts tt
   rules_always (r ∷ rs) mode p ts = always_bind (rule_always mode p r ts) (λ ts₁ _. rules_always rs mode p ts₁)
 
--- of what a push leaves as it was
+-- of what a push and the event hook leave as it was
 abbrev pub Kept : (Tables → ℕ → List ℕ → Type 0) → Shared → Type 0
 Kept X c = X c.tables c.mode c.trail
 
@@ -85,3 +87,18 @@ module _ {N : ℕ → Bool} (six : T (N 6)) (five : T (N 5)) (X : Tables → ℕ
   pub give_all_keeps : (acts : List ℕ) (c : Shared) → Kept X c → Always N (Kept X) (give_all acts c)
   unfolding give_all
   give_all_keeps acts c h = push_all_keeps acts c.context _ h
+
+-- ---- the event hook
+
+module _ {N : ℕ → Bool} (twelve : T (N 12)) where
+  hook_always : (e : Event) (k : ℕ) (x : Context) → Always N Whatever (hook e k x)
+  unfolding hook counted
+  hook_always (Key a) k x = accepts tt
+  hook_always (Class a) k x = always_if _ (always_unless _ 12 twelve (accepts tt)) (accepts tt)
+  hook_always Any k x = accepts tt
+  hook_always Fallthrough k x = accepts tt
+
+  pub hook_keeps : (X : Tables → ℕ → List ℕ → Type 0) (o : Option Event) (k : ℕ) (c : Shared) → Kept X c → Always N (Kept X) (run_hook o k c)
+  unfolding run_hook
+  hook_keeps X none k c h = accepts h
+  hook_keeps X (some e) k c h = always_bind (hook_always e k c.context) (λ x _. accepts h)

@@ -1,6 +1,7 @@
--- One key on any machine: its loop refuses with 8, 6, 5 or 7 alone, the tables stay as they are, and the keys still to try and
--- those on the trail together never weigh more than at the start. A key weighs 1, and 1 more for each time that it can decompose; a
--- round puts back at most what it took, and a key that decomposes gives 27, which weighs 1, and a rest that weighs 1 less.
+-- One key on any machine: its loop refuses with 8, 12, 6, 5 or 7 alone, the tables stay as they are, and the keys still to try
+-- and those on the trail together never weigh more than at the start. A key weighs 1, and 1 more for each time that it can
+-- decompose; a round puts back at most what it took, and a key that decomposes gives 27, which weighs 1, and a rest that weighs 1
+-- less.
 use Prim.Native.Nat.{ℕ, zero, suc, ◌+◌, ◌*◌, ◌/◌, ◌≤◌}
 use native.Mathlib.Omega.{arith}
 use mathlib.Core.Path.{◌≡◌, refl}
@@ -10,12 +11,12 @@ use mathlib.Core.List.{List, [], ◌∷◌, ◌++◌}
 use lib.Dec.{T, ltb, ltb→lt, leb→le}
 use lib.ListN.{length, drop, length-append}
 use Rattle.rules.specs.Basics.{Result}
-use Rattle.rules.specs.Values.{largest, composed, most_trail, decomposes, first_key, rest_of, default_action, Event, Step}
+use Rattle.rules.specs.Values.{largest, composed, most_trail, decomposes, first_key, rest_of, default_action, Step}
 use Rattle.rules.specs.Tables.{Tables, mode_entry}
 use Rattle.rules.specs.KeyLoop.{Shared, with_mode, give_all, InputResult, Again, ClearTrail, Consumed, NeedMore, Unmapped, RunStep, RetryAfter, Navigator, State}
-use Rattle.rules.specs.KeyLoop.{run_hook, set_mark, or_default, at, clear_trail, proceed, goto_mode, unmapped, step_to, step, after, round, loop}
+use Rattle.rules.specs.KeyLoop.{set_mark, or_default, at, clear_trail, proceed, goto_mode, unmapped, step_to, step, after, round, loop}
 use Rattle.rules.proofs.Weights.{Each, each_append, each_drop, each_map, weight_by, weight_append, weight_drop, weight_most}
-use Rattle.rules.proofs.Results.{Always, accepts, refuses, always_bind, unless_so, if_so, give_all_keeps}
+use Rattle.rules.proofs.Results.{Always, accepts, refuses, always_bind, unless_so, if_so, give_all_keeps, hook_keeps}
 
 -- ---- weights
 
@@ -48,11 +49,6 @@ mark_has : (Y : Tables → List ℕ → Type 0) (o : Option ℕ) (c : Shared) �
 unfolding set_mark
 mark_has Y none c h = h
 mark_has Y (some x) c h = h
-
-hook_stays : (o : Option Event) (k : ℕ) (c : Shared) → ((run_hook o k c).tables ≡ c.tables) × ((run_hook o k c).trail ≡ c.trail)
-unfolding run_hook
-hook_stays none k c = (refl, refl)
-hook_stays (some e) k c = (refl, refl)
 
 module _ {P : Type 0} (nav : Navigator P) {N : ℕ → Bool} (six : T (N 6)) (five : T (N 5)) (Y : Tables → List ℕ → Type 0) where
   give : (acts : List ℕ) (c : Shared) → Has Y c → Always N (Has Y) (give_all acts c)
@@ -94,7 +90,7 @@ module _ {P : Type 0} {t : Tables} {w l : ℕ} {K : ℕ → Type 0} where
   unfolding weight_by
   cleared ks m (b, e) h k = record { tables = b; weighs = rw e (omega arith); trails = rw e (omega arith); tries = k; waits = rw e tt }
 
-module _ {P : Type 0} (nav : Navigator P) {N : ℕ → Bool} (six : T (N 6)) (five : T (N 5)) (seven : T (N 7))
+module _ {P : Type 0} (nav : Navigator P) {N : ℕ → Bool} (twelve : T (N 12)) (six : T (N 6)) (five : T (N 5)) (seven : T (N 7))
     (t : Tables) (w l : ℕ) (room : most_trail ≤ l) (K : ℕ → Type 0) (first : K first_key) (rest : (k : ℕ) → K k → K (rest_of k)) where
   after_bounded : (x : InputResult) (k : ℕ) (ks : List ℕ) (m : State P) → Bounded t w l K (k ∷ ks) m → Always N (λ r. Bounded t w l K r.0 r.1) (after nav x k ks m)
   unfolding after weight_by
@@ -137,9 +133,9 @@ module _ {P : Type 0} (nav : Navigator P) {N : ℕ → Bool} (six : T (N 6)) (fi
   unfolding round
   round_bounded k ks m h =
       let turn = nav.turn m.shared.tables.classes m.place k in
-      let e = hook_stays turn.event k m.shared in
-      after_bounded turn.result k ks (at turn.place (run_hook turn.event k m.shared))
-      (record { tables = rw e.0 h.tables; weighs = rw e.1 h.weighs; trails = rw e.1 h.trails; tries = h.tries; waits = rw e.1 h.waits })
+      always_bind (hook_keeps twelve (λ b _ tr. (b ≡ m.shared.tables) × (tr ≡ m.shared.trail)) turn.event k m.shared (refl, refl))
+      (λ c e. after_bounded turn.result k ks (at turn.place c)
+      (record { tables = rw e.0 h.tables; weighs = rw e.1 h.weighs; trails = rw e.1 h.trails; tries = h.tries; waits = rw e.1 h.waits }))
 
   -- ---- the loop
 

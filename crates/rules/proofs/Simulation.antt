@@ -15,7 +15,7 @@ use Rattle.rules.specs.Tables.{ClassEntry, class_valid, ModeEntry, no_entry, mod
 use Rattle.rules.specs.KeyLoop.{Shared, with_mode, with_trail, give_all}
 use Rattle.rules.specs.KeyLoop.{InputResult, Again, ClearTrail, Consumed, NeedMore, Unmapped, RunStep, RetryAfter, Turn, Navigator, State, KeyResult, run_hook, set_mark, or_default, at, proceed, goto_mode, unmapped, step_to, step, after, round, loop}
 use Rattle.rules.proofs.Tests.{T_and}
-use Rattle.rules.proofs.Results.{Always, accepts, refuses, give_all_keeps}
+use Rattle.rules.proofs.Results.{Always, accepts, refuses, give_all_keeps, hook_keeps}
 
 -- ---- what holds of two results
 
@@ -92,10 +92,8 @@ unfolding set_mark
 mark_fits none c h = h
 mark_fits (some x) c h = h
 
-hook_fits : (o : Option Event) (k : ℕ) (c : Shared) → Fits c → Fits (run_hook o k c)
-unfolding run_hook
-hook_fits none k c h = h
-hook_fits (some x) k c h = h
+hook_fits : (o : Option Event) (k : ℕ) (c : Shared) → Fits c → Always is_other Fits (run_hook o k c)
+hook_fits o k c h = hook_keeps tt (λ t m _. T (tables_valid t) × T (is_mode m)) o k c h
 
 -- ---- what is asked of the two
 
@@ -168,7 +166,8 @@ module _ {P Q : Type 0} (R : P → Q → Type 0) (np : Navigator P) (nq : Naviga
   unfolding round
   round_same k ks m n (same {p = p} {q = q} {c = c} r h) =
       let w = 𝓐.turns c.tables.classes p q r k in
-      rw (← w.event, ← w.result) (after_same _ _ w.place _ w.fits k ks _ (hook_fits (np.turn c.tables.classes p k).event k c h))
+      rw (← w.event, ← w.result)
+      (both_use (hook_fits (np.turn c.tables.classes p k).event k c h) (λ c₁ h₁. after_same _ _ w.place _ w.fits k ks c₁ h₁))
 
   pub loop_same : (left made : ℕ) (ks : List ℕ) (m : State P) (n : State Q) → Same R m n → SameKey R (loop np left made ks m) (loop nq left made ks n)
   unfolding loop proceed
@@ -181,4 +180,4 @@ module _ {P Q : Type 0} (R : P → Q → Type 0) (np : Navigator P) (nq : Naviga
           → {x : Result (List ℕ × State P)} {y : Result (List ℕ × State Q)} → Both (SameRun R) x y
           → SameKey R (proceed (suc made) (λ ks₁ m₁. loop np left (suc made) ks₁ m₁) x) (proceed (suc made) (λ ks₁ m₁. loop nq left (suc made) ks₁ m₁) y)
       go on (both_accept (same_run ks₁ w₁)) = on ks₁ _ _ w₁
-      go on (both_refuse n₁ o) = same_key (suc made) (both_refuse n₁ o)
+      go on (both_refuse n₁ o) = same_key _ (both_refuse n₁ o)

@@ -134,9 +134,10 @@ pub record KeyResult (P : Type 0) : Type 0 where
   pub rounds : ℕ
   pub result : Result (State P)
 
-unfoldable pub run_hook : Option Event → ℕ → Shared → Shared
-run_hook none k c = c
-run_hook (some e) k c = with_context (hook e k c.context) c
+-- the hook of the event that was gone by, if any
+unfoldable pub run_hook : Option Event → ℕ → Shared → Result Shared
+run_hook none k c = accept c
+run_hook (some e) k c = do x ← hook e k c.context; accept (with_context x c)
 
 unfoldable pub set_mark : Option ℕ → Shared → Shared
 set_mark none c = c
@@ -204,10 +205,12 @@ module _ {P : Type 0} (nav : Navigator P) where
   after (RunStep s) k ks m = do m₁ ← step s (clear_trail m); accept (ks, m₁)
   after (RetryAfter s) k ks m = do m₁ ← step s (clear_trail m); accept (k ∷ ks, m₁)
 
+  -- the event hook runs first, before any pair is given and before a key joins the trail
   unfoldable pub round : ℕ → List ℕ → State P → Result (List ℕ × State P)
   round k ks m =
-      let turn = nav.turn m.shared.tables.classes m.place k in
-      after turn.result k ks (at turn.place (run_hook turn.event k m.shared))
+      let turn = nav.turn m.shared.tables.classes m.place k in do
+        c ← run_hook turn.event k m.shared
+        after turn.result k ks (at turn.place c)
 
   -- `left` rounds may still be made and `made` have been: 8 a further round is due and the budget is used up
   unfoldable pub loop : (left made : ℕ) → List ℕ → State P → KeyResult P

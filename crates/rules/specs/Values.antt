@@ -1,9 +1,9 @@
 -- Document 01, "From the Rust to tables": the values, their limits and ranges, context, step and pair.
 -- Numbers are natural numbers. That a value fits 16 bits is a matter of the code's types and is not tested here; every
 -- other range is, by a function named after the value (`is…` for a number, `…Valid` for what is made of several).
-use Rattle.std.specs.Prelude.{ℕ, ◌+◌, ◌-◌, ◌*◌, min, Bool, true, false, ◌&&◌, List, [], leb, ltb, eqb, length, if◌then◌else◌}
+use Rattle.std.specs.Prelude.{ℕ, ◌+◌, ◌-◌, ◌*◌, Bool, true, false, ◌&&◌, List, [], leb, ltb, eqb, length, if◌then◌else◌}
 use Rattle.std.proofs.Math.Option.{Option, none, some}
-use Rattle.rules.specs.Basics.{every, present}
+use Rattle.rules.specs.Basics.{Result, accept, unless, every, present}
 
 -- ---- limits
 
@@ -161,15 +161,18 @@ pub record Context : Type 0 where
 unfoldable pub no_context : Context
 no_context = record { count = 0; mark = 0 }
 
--- the event hook: class 0 with a digit's key counts, up to the largest value, and Any sets the mark
-unfoldable pub hook : Event → ℕ → Context → Context
-hook (Key a) k c = c
-hook (Class a) k c =
-    if eqb a 0 && (leb 48 k && leb k 57)
-    then record { count = min largest (c.count * 10 + (k - 48)); mark = c.mark }
-    else c
-hook Any k c = record { count = c.count; mark = k }
-hook Fallthrough k c = c
+-- the count step: 12 the count would pass the largest value (document 02, request (iv))
+unfoldable pub counted : ℕ → Context → Result Context
+counted digit c =
+    let n = c.count * 10 + digit in
+    unless (leb n largest) 12 (accept (record { count = n; mark = c.mark }))
+
+-- the event hook: class 0 with a digit's key counts, and Any sets the mark
+unfoldable pub hook : Event → ℕ → Context → Result Context
+hook (Key a) k c = accept c
+hook (Class a) k c = if eqb a 0 && (leb 48 k && leb k 57) then counted (k - 48) c else accept c
+hook Any k c = accept (record { count = c.count; mark = k })
+hook Fallthrough k c = accept c
 
 -- `take`: the context, and the zeros that it leaves
 abbrev pub take : Context → Context × Context
@@ -232,5 +235,5 @@ default_pair = pair default_action 0 0
 
 -- ---- everything above, to be opened by one name where a run is computed
 unfoldable pub open-Values : Unit {0}
-unfolding same_event event_valid repeat_valid part_valid path_valid no_context hook merge default_step step_valid map_valid prefix_valid binding_valid default_pair
+unfolding same_event event_valid repeat_valid part_valid path_valid no_context counted hook merge default_step step_valid map_valid prefix_valid binding_valid default_pair
 open-Values = tt
