@@ -10,11 +10,9 @@ use lib.Dec.{ltb}
 use lib.ListN.{length}
 use Rattle.rules.specs.Basics.{Result, accept, refuse, ◌>>=◌, unless}
 use Rattle.rules.specs.KeyLoop.{Shared, Turn, State, KeyResult, Navigator, InputResult, NeedMore, at, run_hook, after, round, proceed, loop}
-use Rattle.rules.proofs.Results.{Always, value}
 use Rattle.keypairs.specs.View.{joined}
 use Rattle.keyloop.specs.View.{turned}
 use Rattle.keyloop.proofs.Navigators.{beside}
-use Rattle.keyloop.proofs.Weighed.{any, Light, Lightly, round_light}
 
 abbrev pub stopped : ℕ → ℕ → KeyResult ℕ
 stopped r n = record { rounds = r; result = refuse n }
@@ -42,9 +40,6 @@ module _ (nav : Navigator ℕ) where
   unfolding loop
   loop_done zero r ks₀ m is = rw is
   loop_done (suc b) r ks₀ m is = rw is
-
-  pub light_on : (k : ℕ) (ks ls : List ℕ) (m m' : State ℕ) → k < 65536 → Light (k ∷ ks) m → accept (ls, m') ≡ round nav k ks m → Light ls m'
-  light_on k ks ls m m' h l e = let a : Always any Lightly (accept (ls, m')) = rw e (round_light nav k ks h m l) in value a
 
   -- a round is its turn, with the event hook, and what follows
   module _ (k : ℕ) (ks : List ℕ) (m : State ℕ) where

@@ -66,7 +66,7 @@ pub stack_from_a_trail : {P : Type 0} (nav : Navigator P) (k : ℕ) (m : State P
     → {ks : List ℕ} {m₁ : State P} → Reaches nav (k ∷ []) m ks m₁ → length ks ≤ 130
 stack_from_a_trail {P} nav k m h l e {ks} r = omega (arith, length-weight splits ks, (go r).weighs)
   where
-    go : {ks₁ : List ℕ} {m₁ : State P} → Reaches nav (k ∷ []) m ks₁ m₁ → Bounded m.shared.tables 130 most_trail Is16 ks₁ m₁
+    go : {ks₁ : List ℕ} {m₁ : State P} → Reaches nav (k ∷ []) m ks₁ m₁ → Bounded splits m.shared.tables 130 most_trail Is16 ks₁ m₁
     go begins = begins_bounded k m h (l, e)
     go (goes_on_lem {k = k₁} {ks₁ = ks₁} {m₁ = m₁} r e₁) = value (rw e₁ at (round_keeps nav m.shared.tables k₁ ks₁ m₁ (go r)))
 

@@ -17,7 +17,7 @@ use Rattle.rules.specs.Calls.{fresh, keep, map_call, prefix_call, key_call, sett
 use Rattle.rules.proofs.Results.{Always, accepts, refuses, Whatever, always_bind, always_more, unless_so}
 use Rattle.rules.proofs.Grown.{Single, stored_single}
 use Rattle.rules.proofs.Weights.{Each, weight_by}
-use Rattle.rules.proofs.Rounds.{Bounded, weight_16, round_bounded, loop_bounded}
+use Rattle.rules.proofs.Rounds.{Bounded, splits, halves, weight_16, round_bounded, loop_bounded}
 use Rattle.rules.proofs.Refusals.{SameMap, Stays, open_always, keep_always, key_always, repeat_always, reset_always, map_always, prefix_always}
 
 -- whatever the number is
@@ -134,19 +134,19 @@ KeyIs16 Reset = Unit {0}
 abbrev pub Short : List ℕ → Type 0
 Short tr = (length tr ≤ most_trail) × Each Is16 tr
 
-pub begins_bounded : {P : Type 0} (k : ℕ) (m : State P) → Is16 k → Short m.shared.trail → Bounded m.shared.tables 130 most_trail Is16 (k ∷ []) m
+pub begins_bounded : {P : Type 0} (k : ℕ) (m : State P) → Is16 k → Short m.shared.trail → Bounded splits m.shared.tables 130 most_trail Is16 (k ∷ []) m
 unfolding weight_by
 begins_bounded k m h s =
     let tr = m.shared.trail in
     let a : length tr ≤ most_trail = s.0 in
-    record { tables = refl; weighs = omega (arith, weight_16 tr s.1); trails = a; tries = (h, tt); waits = s.1 }
+    record { tables = refl; weighs = omega (arith, weight_16 tr s.1); few = omega arith; trails = a; tries = (h, tt); waits = s.1 }
 
 rest_16 : (k : ℕ) → Is16 k → Is16 (rest_of k)
 rest_16 k h = omega arith
 
-pub round_keeps : {P : Type 0} (nav : Navigator P) (t : Tables) (k : ℕ) (ks : List ℕ) (m : State P) → Bounded t 130 most_trail Is16 (k ∷ ks) m
-    → Always any_number (λ r. Bounded t 130 most_trail Is16 r.0 r.1) (round nav k ks m)
-round_keeps nav t = round_bounded nav tt tt tt tt t 130 most_trail (omega arith) Is16 (omega arith) rest_16
+pub round_keeps : {P : Type 0} (nav : Navigator P) (t : Tables) (k : ℕ) (ks : List ℕ) (m : State P) → Bounded splits t 130 most_trail Is16 (k ∷ ks) m
+    → Always any_number (λ r. Bounded splits t 130 most_trail Is16 r.0 r.1) (round nav k ks m)
+round_keeps nav t k = round_bounded nav tt tt tt tt splits t 130 most_trail (omega arith) Is16 (omega arith) rest_16 k (halves k)
 
 module _ (𝓚 : Kind) where
   call_short : (s : Machine 𝓚) (c : Call) → KeyIs16 c → Short s.state.shared.trail → Short (call 𝓚 s c).0.state.shared.trail
@@ -157,7 +157,7 @@ module _ (𝓚 : Kind) where
   call_short s (Prefix mode path os) k h = rw (bound_state 𝓚 (Prefixes mode path os) s (unless (prefix_valid mode path os) 1 (𝓚.prefix_in mode path os s.bindings))) h
   call_short s (Press i) k h =
       pressed_keeps 𝓚 (λ x. Short x.state.shared.trail) s _ h (λ m b. (b.trails, b.waits))
-      (loop_bounded (navigate 𝓚 s) tt tt tt tt s.state.shared.tables 130 most_trail (omega arith) Is16 (omega arith) rest_16 tt i.budget 0 (i.key ∷ []) s.state (begins_bounded i.key s.state k h))
+      (loop_bounded (navigate 𝓚 s) tt tt tt tt splits s.state.shared.tables 130 most_trail (omega arith) Is16 (omega arith) rest_16 tt halves i.budget 0 (i.key ∷ []) s.state (begins_bounded i.key s.state k h))
   call_short s Pop k h = rw (popped_stays 𝓚 s s.state.shared.queue).1 h
   call_short s (Repeats q over) k h = rw (settled_stays 𝓚 s (repeat_always 𝓚 tt tt q over s)).1 h
   call_short s Reset k h = rw (settled_stays 𝓚 s (reset_always 𝓚 tt tt s)).1 h

@@ -22,7 +22,7 @@ use Rattle.rules.proofs.Results.{Always, accepts, refuses, Whatever, always_bind
 use Rattle.rules.proofs.Edges.{edge, stored}
 use Rattle.rules.proofs.Grown.{map_grows, prefix_grows}
 use Rattle.rules.proofs.Weights.{each_key}
-use Rattle.rules.proofs.Rounds.{weight, goto_keeps, loop_bounded}
+use Rattle.rules.proofs.Rounds.{splits, weight, halves, goto_keeps, loop_bounded}
 
 -- ---- calls of a machine
 
@@ -52,8 +52,8 @@ module _ (𝓚 : Kind) {N : ℕ → Bool} where
   key_always eight twelve six five seven i s =
       let tr = s.state.shared.trail in
       always_more (λ m h. h.tables)
-      (loop_bounded (navigate 𝓚 s) twelve six five seven s.state.shared.tables (weight (i.key ∷ []) + weight tr) (most_trail + length tr) (omega arith) (λ k. Unit {0}) tt (λ k h. tt) eight i.budget 0 (i.key ∷ []) s.state
-      (record { tables = refl; weighs = omega arith; trails = omega arith; tries = (tt, tt); waits = each_key (λ k. tt) tr }))
+      (loop_bounded (navigate 𝓚 s) twelve six five seven splits s.state.shared.tables (1 + weight (i.key ∷ []) + weight tr) (most_trail + length tr) (omega arith) (λ k. Unit {0}) tt (λ k h. tt) eight halves i.budget 0 (i.key ∷ []) s.state
+      (record { tables = refl; weighs = omega arith; few = omega arith; trails = omega arith; tries = (tt, tt); waits = each_key (λ k. tt) tr }))
 
   pub repeat_always : T (N 1) → T (N 5) → (q : ℕ) (over : Option Context) (s : Machine 𝓚) → Always N (Stays s) (repeat_call 𝓚 q over s)
   unfolding repeat_call repeat_sequence

@@ -48,10 +48,11 @@ module _ (more : ℕ → ℕ) where
   weight_append [] ys = omega arith
   weight_append (x ∷ xs) ys = omega (arith, weight_append xs ys)
 
-  pub weight_drop : (xs : List ℕ) → weight_by more (drop 1 xs) ≤ weight_by more xs
+  -- the first of some keys weighs 1 at least
+  pub weight_behind : (xs : List ℕ) (k : ℕ) → 1 + weight_by more (drop 1 (xs ++ (k ∷ []))) ≤ weight_by more (xs ++ (k ∷ []))
   unfolding weight_by
-  weight_drop [] = omega arith
-  weight_drop (x ∷ xs) = omega arith
+  weight_behind [] k = omega arith
+  weight_behind (x ∷ xs) k = omega arith
 
   pub length-weight : (xs : List ℕ) → length xs ≤ weight_by more xs
   unfolding weight_by

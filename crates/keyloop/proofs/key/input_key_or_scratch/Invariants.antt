@@ -10,7 +10,7 @@ use Rattle.keyloop.proofs.key.input_key_or_scratch.Given as goal
 
 abbrev pub invariant-loop-rounds : goal.invariant-loop-rounds
 invariant-loop-rounds l = record {
-  light : Light (keys_of l.stack) (live_of (tables_of l.map.tables.now) l.live);
+  light : Light (tables_of l.map.tables.now) (keys_of l.stack) (live_of (tables_of l.map.tables.now) l.live);
   same : loop (navigator_of l.map) (l.budget - l.rounds) l.rounds (keys_of l.stack) (live_of (tables_of l.map.tables.now) l.live)
       ≡ input_key (navigator_of l.map) (record { key = l.first; budget = l.budget }) (live_of (tables_of l.map.tables.now) l.initial.live);
 }
