@@ -1,7 +1,7 @@
 /*
  * A shift with a scanner, to be copied: a machine in static storage, keys and the pairs that they give, a sequence that is
- * repeated, a binding that is added on the way, refusals that are handled, and what a help screen asks. It prints what it
- * does; shift.out is what it must print.
+ * repeated, bindings that are added on the way, how many more fit, refusals that are handled, and what a help screen asks. It
+ * prints what it does; shift.out is what it must print.
  */
 #include "../include/keymap.h"
 
@@ -129,6 +129,12 @@ static void tell_mode(void) {
     printf("mode %u\n", (unsigned)keymap_mode(machine));
 }
 
+/* For a supervisor who plans bindings: each key of a path takes a node, mostly none where an earlier path begins the same. The
+   map above takes 5, for p, b, any, s and d; its prefix takes none. */
+static void tell_free(void) {
+    printf("%u nodes are left\n", KEYMAP_FREE(keymap_free(machine)));
+}
+
 /* The help screen: in which mode a key does what. Of several keys for one action that with the lowest node is shown, mostly the
    first that was bound; so two scanners with the same map show the same. */
 static void tell_help(void) {
@@ -168,14 +174,17 @@ int main(void) {
     tell("repeat", keymap_repeat(machine, 0));
     tell("repeat sequence 8", keymap_repeat(machine, 8));
 
-    /* x has no binding yet. A binding that was cut off is refused, and the whole one is accepted. */
+    /* x has no binding yet. A binding that was cut off is refused and takes no node. The whole one is accepted. */
     press_all("x");
+    tell_free();
     tell("bind, cut off", keymap_bind(machine, binding, sizeof binding - 1));
+    tell_free();
     tell("bind", keymap_bind(machine, binding, sizeof binding));
+    tell_free();
     press_all("x");
     tell("bind another", keymap_bind(machine, another, sizeof another));
     press_all("l");
-    printf("%s\n", KEYMAP_FREE(keymap_free(machine)) > 0 ? "nodes are left" : "no node is left");
+    tell_free();
 
     /* A budget of 0 refuses any key; pressed again, the 5 counts once. */
     press('5', 0);

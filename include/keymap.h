@@ -168,8 +168,11 @@ uint64_t keymap_find(const keymap_machine *machine, uint16_t mode, uint16_t acti
 #define KEYMAP_NODE(result) ((unsigned)((result) / 32 - 1))
 
 /*
- * How many nodes are left for bindings; each key of a path takes one, unless an earlier path begins the same. Never refused.
- * The result is nodes * 32, for a number that is at most the nodes left, and 0 only if none is.
+ * How many nodes are left for bindings: exactly 1,024 less those that accepted bindings have made since the machine was opened,
+ * the map's own among them. So a supervisor can plan: each key of a path takes at most one node, and mostly none where an
+ * earlier path begins the same; a repeat takes more. docs/KEYMAPS.md says it exactly. A refused call takes none, and no call
+ * but keymap_open gives any back. Edges and bindings have limits of their own. Never refused.
+ * The result is nodes * 32.
  */
 uint64_t keymap_free(const keymap_machine *machine);
 

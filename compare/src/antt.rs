@@ -7,6 +7,7 @@ use crate::calls::{Answer, Call, ClassEntry, Context, Event, ModeEntry, Pair, Pa
 use crate::cases::Case;
 use crate::finds;
 use crate::graph::{Graph, Node, NodeAction};
+use crate::hints;
 use crate::play::{Played, Seen};
 
 /// The items of a list, each as antt.
@@ -131,13 +132,15 @@ pub fn play_row(name: String, input: &[u8], text: &str) -> Row {
     Row { name, value: format!("printed {} {}", bytes(input), bytes(text.as_bytes())) }
 }
 
-/// The graph that binding calls build: its nodes by their numbers, how many edges it has, each of them, and finds in it.
+/// The graph that binding calls build: its nodes by their numbers, the hint, how many edges it has, each of them, and finds in
+/// it.
 pub fn graph_row(name: String, calls: &[Call], graph: &Graph) -> Row {
     let (nodes, edges) = (graph.nodes(), graph.edges());
-    let (calls, nodes, count) = (list(calls, call), list(&nodes, |n| node(n)), edges.len());
+    let (left, count) = (hints::hint(graph), edges.len());
+    let (calls, nodes) = (list(calls, call), list(&nodes, |n| node(n)));
     let edges = list(&edges, |(from, ev, to)| format!("led {from} {} (some {to})", event(*ev)));
     let finds = list(&finds::chances(graph), |&(mode, action)| shown(graph, mode, action));
-    Row { name, value: format!("built {calls}\n    {nodes}\n    {count} {edges}\n    {finds}") }
+    Row { name, value: format!("built {calls}\n    {nodes}\n    {left} {count} {edges}\n    {finds}") }
 }
 
 fn shown(graph: &Graph, mode: u16, action: u16) -> String {

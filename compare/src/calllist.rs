@@ -1,10 +1,11 @@
 //! The input of the program `callplay` and what it must print. An input is numbers as in a map file: the three tables, then
-//! calls to the end. The answers are those of model and original. Find's and a written map file are the model's; the hint, which
-//! document 01 leaves free, is held to its nodes. The same lines hold for the calls of C on one machine.
+//! calls to the end. The answers are those of model and original; find's, the hint's and a written map file are the model's.
+//! The same lines hold for the calls of C on one machine.
 
 use crate::calls::{Answer, Call, Tables};
 use crate::finds;
 use crate::graph::limits;
+use crate::hints;
 use crate::mapfile::bindings_of;
 use crate::met::{expect_named, met_named};
 use crate::play::{Both, Seen};
@@ -50,44 +51,8 @@ impl Room {
 /// The most bytes that `callplay` lends to the writer. C may lend more.
 const MOST_ROOM: usize = 65_535;
 
-/// A line of the program.
-#[derive(Clone, Debug, PartialEq)]
-pub enum Line {
-    Text(String),
-    /// At most the nodes left, and 0 only if none is left; then the mode.
-    Free(usize, u16),
-}
-
-impl Line {
-    pub fn fits(&self, line: &str) -> bool {
-        match self {
-            Line::Text(text) => text == line,
-            Line::Free(left, mode) => {
-                let number = line.strip_prefix("free ").and_then(|l| l.strip_suffix(&format!(" mode {mode}")));
-                let free = number.and_then(|n| n.parse::<usize>().ok().filter(|k| k.to_string() == n));
-                free.is_some_and(|k| k <= *left && (k > 0 || *left == 0))
-            },
-        }
-    }
-
-    /// What must be and what is, in words.
-    pub fn against(&self, is: &str) -> String {
-        match self {
-            Line::Text(must) => differing(must, is),
-            other => format!("must be {other:?}, is {is:?}"),
-        }
-    }
-
-    /// The line, where only one fits.
-    pub fn only(&self) -> Option<String> {
-        match self {
-            Line::Text(text) => Some(text.clone()),
-            Line::Free(..) => None,
-        }
-    }
-}
-
-/// A file can have hundreds of thousands of digits: of long words only those from the first difference on are shown.
+/// What must be and what is. A file can have hundreds of thousands of digits: of long words only those from the first
+/// difference on are shown.
 pub fn differing(must: &str, is: &str) -> String {
     if must.len().max(is.len()) <= 2000 {
         return format!("must be {must:?}, is {is:?}");
@@ -101,7 +66,7 @@ pub fn differing(must: &str, is: &str) -> String {
 /// One input, and what must be printed.
 pub struct Play {
     pub input: Vec<u8>,
-    pub lines: Vec<Line>,
+    pub lines: Vec<String>,
 }
 
 // ---- the input
@@ -140,39 +105,37 @@ impl Play {
         Play { input: bytes_of(&numbers), lines: vec![] }
     }
 
-    fn add(&mut self, item: &Item, line: Line) {
+    fn add(&mut self, item: &Item, line: String) {
         self.input.extend(bytes_of_item(item));
         self.lines.push(line);
     }
 
     fn is_refused(&self) -> bool {
-        self.lines.last() == Some(&Line::Text("refused 9".into()))
+        self.lines.last().is_some_and(|line| line == "refused 9")
     }
 }
 
 // ---- the answers
 
-fn settled(seen: &Seen) -> Line {
+fn settled(seen: &Seen) -> String {
     let answer = match seen.answer {
         Answer::Accepted => "ok".into(),
         Answer::Rounds(rounds) => format!("ok rounds {rounds}"),
         other => other.to_string(),
     };
-    Line::Text(format!("{answer} mode {}", seen.mode))
+    format!("{answer} mode {}", seen.mode)
 }
 
-fn find(both: &Both, mode: u16, action: u16) -> Line {
-    Line::Text(format!("{} mode {}", finds::answer(both.model.graph(), mode, action), both.model.mode()))
+fn find(both: &Both, mode: u16, action: u16) -> String {
+    format!("{} mode {}", finds::answer(both.model.graph(), mode, action), both.model.mode())
 }
 
-fn hint(both: &Both) -> Line {
-    let left = 1024 - both.model.graph().size().0;
-    met_named(format!("hint: {}", if left == 0 { "none left" } else { "some left" }));
-    Line::Free(left, both.model.mode())
+fn hint(both: &Both) -> String {
+    format!("{} mode {}", hints::answer(both.model.graph(), both.last()), both.model.mode())
 }
 
 /// The file's line. The file must be read as the model's own tables and bindings, and give the same bindings again.
-fn write(both: &Both, room: Room) -> Result<Line, String> {
+fn write(both: &Both, room: Room) -> Result<String, String> {
     let (file, mode) = (both.model.file(), both.model.mode());
     let room = room.for_file(file.len());
     let read = bindings_of(&file).is_some_and(|(tables, bindings)| both.model.is_bound_by(&tables, &bindings));
@@ -181,7 +144,7 @@ fn write(both: &Both, room: Room) -> Result<Line, String> {
     }
     note_write(file.len(), room, both.model.keeps());
     let answer = if file.len() > room { "refused 10".into() } else { format!("file {}", hexadecimal(&file)) };
-    Ok(Line::Text(format!("{answer} mode {mode}")))
+    Ok(format!("{answer} mode {mode}"))
 }
 
 const WRITTEN: &str = "write: a file";
@@ -235,7 +198,7 @@ pub struct Plays {
     pub inputs: Vec<Play>,
     /// The items with their lines as they come on one machine, the opens among them, and writes with more room than
     /// `callplay` lends.
-    pub calls: Vec<(Item, Line)>,
+    pub calls: Vec<(Item, String)>,
 }
 
 /// The plays of a list. At its end the queue is popped and each remembered sequence repeated, so that what it left is seen.
@@ -276,7 +239,7 @@ impl Playing {
         if seen.answer == Answer::Accepted {
             self.plays.inputs.extend([was, play]);
         } else {
-            play.lines.push(Line::Text("refused 1".into()));
+            play.lines.push("refused 1".into());
             self.plays.inputs.extend([play, was]);
         }
         self.plays.calls.push((item.clone(), settled(&seen)));
@@ -293,7 +256,7 @@ impl Playing {
         Ok(())
     }
 
-    fn put(&mut self, item: &Item, line: Line) {
+    fn put(&mut self, item: &Item, line: String) {
         self.plays.calls.push((item.clone(), line.clone()));
         if !matches!(item, Item::Write(Room::Of(room)) if *room > MOST_ROOM) {
             self.plays.inputs.last_mut().unwrap().add(item, line);
@@ -329,7 +292,7 @@ impl Playing {
     }
 }
 
-fn answer(both: &mut Both, item: &Item) -> Result<Line, String> {
+fn answer(both: &mut Both, item: &Item) -> Result<String, String> {
     Ok(match item {
         Item::Call(call) => settled(&both.call(call)?),
         Item::Find(mode, action) => find(both, *mode, *action),
@@ -337,11 +300,11 @@ fn answer(both: &mut Both, item: &Item) -> Result<Line, String> {
         Item::Write(room) => write(both, *room)?,
         Item::Unknown(_) => {
             met_named("a kind or flag that there is not: refused 1".into());
-            Line::Text(format!("refused 1 mode {}", both.model.mode()))
+            format!("refused 1 mode {}", both.model.mode())
         },
         Item::Malformed(_) => {
             met_named("a malformed call: refused 9".into());
-            Line::Text("refused 9".into())
+            "refused 9".into()
         },
     })
 }

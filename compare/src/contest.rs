@@ -5,9 +5,10 @@ use std::panic::{catch_unwind, AssertUnwindSafe};
 use std::path::Path;
 use std::time::{Duration, Instant};
 
-use crate::calllist::{self, plays, Line, List, Play};
+use crate::calllist::{self, differing, plays, List, Play};
 use crate::cases::{any_case_of, input_of_case, Case};
 use crate::finds;
+use crate::hints;
 use crate::lent;
 use crate::mapfile;
 use crate::met;
@@ -118,21 +119,19 @@ impl Contest {
     }
 
     fn play_difference(&self, play: &Play) -> Option<String> {
-        let too_long = [Line::Text("refused 9".into())];
+        let too_long = ["refused 9".to_string()];
         let lines = if play.input.len() > MOST_INPUT { &too_long[..] } else { &play.lines };
         let text = match self.programs.callplay(&play.input) {
             Ok(text) => text,
             Err(e) => return Some(e),
         };
         let printed: Vec<&str> = text.split_terminator('\n').collect();
-        let same = |at: usize| lines[at].fits(printed[at]);
-        let at = (0..lines.len().min(printed.len())).find(|&at| !same(at));
-        let at = at.unwrap_or(lines.len().min(printed.len()));
+        let at = lines.iter().zip(&printed).take_while(|(line, is)| line == is).count();
         if at == lines.len() && at == printed.len() {
             return None;
         }
         let words = match (lines.get(at), printed.get(at)) {
-            (Some(line), Some(is)) => line.against(is),
+            (Some(line), Some(is)) => differing(line, is),
             (line, is) => format!("must be {line:?}, is {is:?}"),
         };
         Some(format!("stdin of callplay: {:02X?}\nline {}: {words}", play.input, at + 1))
@@ -177,6 +176,7 @@ pub fn expect_met() {
     expect_answers();
     calllist::expect_writes();
     finds::expect();
+    hints::expect();
     met::expect_named("run: accepted".into());
     (1..=12).for_each(|n| met::expect_named(format!("run: refused {n:2}")));
     met::expect_named("run: the output is full to its last byte".into());

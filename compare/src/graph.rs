@@ -109,6 +109,13 @@ impl Graph {
         (self.nodes.len() - ROOTS, self.edge_count)
     }
 
+    /// For the counts alone: whether a node beside the roots has no edge to it any more.
+    pub fn has_unreached(&self) -> bool {
+        let mut reached = vec![false; self.nodes.len()];
+        self.edges.values().flat_map(HashMap::values).for_each(|edge| reached[edge.to] = true);
+        reached[ROOTS..].contains(&false)
+    }
+
     fn add_node(&mut self, mode: u16, action: NodeAction) -> Outcome<NodeId> {
         let id = self.nodes.len();
         if id == ROOTS + limits().nodes {

@@ -1,13 +1,13 @@
 //! A list of calls on one lent machine of the archive, by its C functions. Each answer is written as the line that `callplay`
 //! prints for it, so that library and program are held to the same lines. A refused call, and one that only looks, must leave
 //! every byte of the machine as it was: that is more than the contracts say, which speak of what the bytes mean. A written file
-//! must open another machine, and that one must write the same file.
+//! must open another machine, and that one must have the same hint and write the same file.
 //!
 //! C gets the tables as a map without bindings, and a binding as its bytes. Every value that a list can hold can be said so:
 //! one that is out of its range is refused with 1 when it is read, and a count that is too large before what it counts.
 
 use crate::bytes::put_number;
-use crate::calllist::{bytes_of_item, differing, Item, Line, Room};
+use crate::calllist::{bytes_of_item, differing, Item, Room};
 use crate::calls::{Call, Tables};
 use crate::graph::limits;
 use crate::machine::Machine;
@@ -23,7 +23,7 @@ const KEPT: &str = "C: refused or looking, and no byte of the machine changed";
 const DAMAGED: &str = "C: a byte too few or too many, refused";
 const LARGE: &str = "C: repeat_over with a count over 65,535, refused";
 const PASSED: &str = "C: a key whose count would pass 65,535, refused 12";
-const AGAIN: &str = "C: a written file opens a machine that writes it again";
+const AGAIN: &str = "C: a written file opens a machine that has the same hint and writes it again";
 const ONE_MORE: &str = "C: a file of 1,024 bindings and one more, refused 11";
 
 pub fn expect_calls() {
@@ -31,19 +31,19 @@ pub fn expect_calls() {
 }
 
 /// How the machine differs from the lines, if it does.
-pub fn difference(calls: &[(Item, Line)]) -> Option<String> {
+pub fn difference(calls: &[(Item, String)]) -> Option<String> {
     play(calls).err()
 }
 
-fn play(calls: &[(Item, Line)]) -> Result<(), String> {
+fn play(calls: &[(Item, String)]) -> Result<(), String> {
     let mut machine = Machine::lent();
     // a list begins with empty tables, and C with an open
     holds(&mut machine, "the first open", "ok", |m| settled(m.open(&map_of(&Tables::default()))))?;
     for (item, line) in calls.iter().filter(|(item, _)| has_function(item)) {
         refuse_beside(&mut machine, item)?;
         let is = answered(&mut machine, item)?;
-        if !line.fits(&is) {
-            return Err(format!("the lent machine at {item:?}: {}", line.against(&is)));
+        if *line != is {
+            return Err(format!("the lent machine at {item:?}: {}", differing(line, &is)));
         }
         met_named(CALLS.into());
         if is.starts_with("refused 12 ") {
@@ -153,13 +153,15 @@ fn filed(machine: &mut Machine, room: usize) -> Told {
     told(words, true)
 }
 
-/// Where a file fits, another machine is opened with it and must write it again; and with one binding more than a machine
-/// keeps, it must be refused.
+/// Where a file fits, another machine is opened with it, and must have the same hint and write the file again; and with one
+/// binding more than a machine keeps, it must be refused.
 fn read_back(machine: &mut Machine, room: usize) -> Result<(), String> {
     let Ok(file) = written(machine, room) else { return Ok(()) };
     let mut other = Machine::lent();
+    let left = watched(machine, "the hint", |m| free(m.free()))?;
     let again = format!("file {}", hexadecimal(&file));
     holds(&mut other, "the open of a written file", "ok", |m| settled(m.open(&file)))?;
+    holds(&mut other, "the hint after the open of a written file", &left, |m| free(m.free()))?;
     holds(&mut other, "the write of an opened file", &again, |m| filed(m, file.len()))?;
     met_named(AGAIN.into());
     let (tables, mut bindings) = bindings_of(&file).expect("the file is the model's, which can be read");

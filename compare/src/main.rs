@@ -15,6 +15,7 @@ mod edges;
 mod finds;
 mod gen;
 mod graph;
+mod hints;
 mod lent;
 mod machine;
 mod mapfile;

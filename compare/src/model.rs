@@ -100,6 +100,8 @@ pub struct Model {
     queue: VecDeque<Pair>,
     trail: Vec<u16>,
     sequences: HashMap<u16, Tracker>,
+    /// For the counts alone: how many nodes the work of the last call but a pop had made when it ended, refused or not.
+    made: usize,
 }
 
 impl Model {
@@ -114,6 +116,7 @@ impl Model {
             queue: VecDeque::new(),
             trail: vec![],
             sequences: HashMap::new(),
+            made: 0,
         }
     }
 
@@ -141,6 +144,10 @@ impl Model {
 
     pub fn graph(&self) -> &Graph {
         &self.graph
+    }
+
+    pub fn made(&self) -> usize {
+        self.made
     }
 
     // ---- the map file
@@ -497,9 +504,11 @@ impl Model {
     fn tried(&mut self, work: impl FnOnce(&mut Model) -> Outcome<()>) -> Outcome<()> {
         let before = self.clone();
         let outcome = work(self);
+        let made = self.graph.size().0.saturating_sub(before.graph.size().0);
         if outcome.is_err() {
             *self = before;
         }
+        self.made = made;
         outcome
     }
 }

@@ -3,6 +3,7 @@
 
 use crate::calls::{Answer, Call, Context, Pair};
 use crate::graph::limits;
+use crate::hints::Last;
 use crate::met::{expect_named, met_named};
 use crate::model::Model;
 use crate::oracle::{Made, Oracle};
@@ -20,17 +21,25 @@ pub struct Seen {
 pub struct Both {
     pub model: Model,
     original: Oracle,
+    last: Last,
 }
 
 impl Both {
     pub fn fresh() -> Self {
-        Both { model: Model::fresh(Default::default()), original: Oracle::fresh() }
+        Both { model: Model::fresh(Default::default()), original: Oracle::fresh(), last: Last::Other }
+    }
+
+    /// The last call.
+    pub fn last(&self) -> Last {
+        self.last
     }
 
     /// The answer and what is seen, or how model and original differ.
     pub fn call(&mut self, call: &Call) -> Result<Seen, String> {
-        let full = self.model.keeps() == limits().kept;
+        let (full, nodes) = (self.model.keeps() == limits().kept, self.model.graph().size().0);
         let answer = self.model.call(call);
+        self.last = Last::of(call, answer, nodes, self.model.made());
+        self.last.is_possible()?;
         met_named(format!("{}: {}", name_of(call), answer_kind(answer)));
         if full && matches!(call, Call::Map(..) | Call::Prefix(..)) {
             met_named(format!("{KEPT_FULL}: {}", answer_kind(answer)));

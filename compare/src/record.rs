@@ -5,7 +5,7 @@
 use std::collections::BTreeMap;
 
 use crate::bytes::put_number;
-use crate::calllist::{plays, Item, List, Play};
+use crate::calllist::{plays, Play};
 use crate::cases::{any_case_of, input_of_case};
 use crate::mapfile::keyplay;
 use crate::met;
@@ -75,13 +75,12 @@ fn record(count: usize, samples: fn(u64) -> Result<Vec<Sample>, String>) -> Resu
     unreachable!("the seeds do not end")
 }
 
-/// Lists of calls, without hints, which may have several right answers.
+/// Lists of calls.
 pub fn lists(count: usize) -> Result<Recorded, String> {
     record(count, |seed| {
-        let list: List = list_of(seed).into_iter().filter(|item| *item != Item::Hint).collect();
-        let text = |play: &Play| play.lines.iter().map(|l| l.only().map(|l| l + "\n")).collect::<Option<String>>();
-        let sample = |play: Play| text(&play).map(|text| Sample { input: play.input, text });
-        Ok(plays(&list)?.inputs.into_iter().filter_map(sample).collect())
+        let text = |play: &Play| play.lines.iter().map(|line| format!("{line}\n")).collect();
+        let sample = |play: Play| Sample { text: text(&play), input: play.input };
+        Ok(plays(&list_of(seed))?.inputs.into_iter().map(sample).collect())
     })
 }
 

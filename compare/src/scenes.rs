@@ -5,7 +5,7 @@
 use crate::calllist::{Item, List, Room};
 use crate::calls::{Call, ClassEntry, Context, Event, ModeEntry, Part, Repeat, Rule, Step, Tables};
 use crate::chains;
-use crate::gen::{with_digits, Gen, Kind};
+use crate::gen::{with_digits, Gen, Kind, Random};
 use crate::graph::Graph;
 use crate::writing::file_of;
 
@@ -91,7 +91,34 @@ pub fn list_of(seed: u64) -> List {
         let at = g.random.below(list.len() as u64 + 1) as usize;
         list.insert(at, Item::Malformed(malformed(&mut g)));
     }
-    list
+    with_hints(seed, list)
+}
+
+/// So many items at a list's end are where a full machine meets what is too much.
+const LAST: usize = 40;
+
+/// The list with hints right before and right after a share of its opens and bindings, a larger one at its end, and most of all
+/// at that of a long list. All else is as without them.
+fn with_hints(seed: u64, list: List) -> List {
+    let mut random = Random::from_seed(!seed);
+    let last = list.len().saturating_sub(LAST);
+    let late = if last > 200 { 60 } else { 30 };
+    let mut hinted = vec![];
+    for (at, item) in list.into_iter().enumerate() {
+        let asked = is_binding_or_open(&item) && random.chance(if at < last { 2 } else { late });
+        if asked && hinted.last() != Some(&Item::Hint) {
+            hinted.push(Item::Hint);
+        }
+        hinted.push(item);
+        if asked {
+            hinted.push(Item::Hint);
+        }
+    }
+    hinted
+}
+
+fn is_binding_or_open(item: &Item) -> bool {
+    matches!(item, Item::Call(Call::Open(_) | Call::Map(..) | Call::Prefix(..)))
 }
 
 fn beside(g: &mut Gen) -> Item {
@@ -656,6 +683,17 @@ impl Fill {
         vec![self.next_key - 1]
     }
 
+    /// A binding of so many keys that makes a node for each.
+    fn of_keys(&mut self, g: &mut Gen, keys: usize) -> Call {
+        let way = (0..keys).map(|_| once(self.fresh_key())).collect();
+        let (mode, step) = (g.mode(), g.step());
+        if g.random.chance(50) {
+            Call::Map(mode, way, step)
+        } else {
+            Call::Prefix(mode, way, Some(step))
+        }
+    }
+
     /// So many edges and no node.
     fn edges(&mut self, g: &mut Gen, edges: usize) {
         let mode = g.mode();
@@ -683,6 +721,12 @@ fn small_bindings(g: &mut Gen, fill: &mut Fill) -> Vec<Call> {
     calls
 }
 
+/// Bindings where so many nodes are left: of one too many, which is met behind the others; of all but one; again of one too
+/// many; of the last; and of one more.
+fn last_nodes(g: &mut Gen, fill: &mut Fill, left: usize) -> Vec<Call> {
+    [left + 1, left.saturating_sub(1), 2, 1, 1].map(|keys| fill.of_keys(g, keys)).into()
+}
+
 /// All nodes but a few taken, and then bindings that need some.
 fn full_nodes(g: &mut Gen) -> Vec<Call> {
     let mut fill = Fill::new();
@@ -691,6 +735,10 @@ fn full_nodes(g: &mut Gen) -> Vec<Call> {
     let spare = g.random.below(4) as usize;
     let left = 1024 - fill.graph.size().0;
     fill.nodes(g, left - spare, with_max);
+    if g.random.chance(50) {
+        let last = last_nodes(g, &mut fill, spare);
+        fill.calls.extend(last);
+    }
     finish(g, fill)
 }
 
@@ -701,6 +749,11 @@ fn full_edges(g: &mut Gen) -> Vec<Call> {
     let spare = g.random.below(5) as usize;
     let left = 2048usize.saturating_sub(fill.graph.size().1 + spare);
     fill.edges(g, left);
+    if g.random.chance(30) {
+        // its last node is made, and has no edge
+        let beyond = fill.of_keys(g, spare + 1);
+        fill.calls.push(beyond);
+    }
     finish(g, fill)
 }
 
@@ -932,7 +985,8 @@ fn fill_kept(g: &mut Gen, calls: &mut Vec<Call>, kept: usize) {
     calls.extend((0..kept).map(|_| empty_binding(g, short)));
 }
 
-/// Bindings of every outcome: 11 where all calls are kept, else accepted; and 1 and 4, which are met before 11.
+/// Bindings of every outcome: 11 where all calls are kept, else accepted; and 1 and 4, which are met before 11. The last makes
+/// two nodes where there is room.
 fn late_bindings(g: &mut Gen) -> Vec<Call> {
     let refused = |g: &mut Gen| match g.random.below(4) {
         0 => Call::Map(16, vec![], does(1)),
@@ -950,6 +1004,7 @@ fn late_bindings(g: &mut Gen) -> Vec<Call> {
             _ => g.binding(),
         });
     }
+    calls.push(Call::Map(0, path(&[604, 605]), does(1)));
     calls
 }
 

@@ -1,7 +1,7 @@
 // The modal machine by value: a call that changes it hands back the machine after it, with the answer, and what only reads is lent
 // it. Each is proved equal to the rules' `call` on what the machine means, by the views of specs/View.antt; a binding call is made
-// on the scanner, which keeps it, and is told by the rules' `bind`. `find` is the rules' `find`, and how many nodes are left is a
-// hint that they allow. A key and a reset are there on a lent live state too.
+// on the scanner, which keeps it, and is told by the rules' `bind`. `find` is the rules' `find`, and how many nodes are left is
+// their `hint`. A key and a reset are there on a lent live state too.
 #![tactic(auto)]
 
 pub mod live;

@@ -2,7 +2,7 @@
 // hands back the machine before it. What only reads is lent the machine.
 ghost use Rattle.std.specs.Prelude.{◌≡◌, List};
 ghost use Rattle.rules.specs.Tables.{no_tables};
-ghost use Rattle.rules.specs.Calls.{graph_kind, call, fresh, mode_call, Open, Press, Pop, Repeats, Reset, HintFits, find};
+ghost use Rattle.rules.specs.Calls.{graph_kind, call, fresh, mode_call, Open, Press, Pop, Repeats, Reset, find, hint};
 ghost use Rattle.keyvalues.specs.View.{told, maybe_of, said_of};
 ghost use Rattle.keyparts.specs.View.{graph_of};
 ghost use Rattle.keytables.specs.View.{whole_tables, tables_of};
@@ -110,7 +110,7 @@ impl ModalMachine {
 
     // How many nodes are left.
     pub fn free_nodes(&self) -> u16
-        ensures { HintFits (graph_of self.now.map.graph) result }
+        ensures { result ≡ hint (graph_of self.now.map.graph) }
     {
         self.map.graph.free_nodes()
     }

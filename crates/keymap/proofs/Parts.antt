@@ -1,5 +1,5 @@
 -- What `keymap.h` takes apart is what was put together: its macros give the rounds and the refusal, the three numbers of a
--- pair, and the node that was found. A refusal is below 32, and an action, a count and a mark are below 2^16.
+-- pair, the node that was found, and the nodes that are left. A refusal is below 32, and an action, a count and a mark are below 2^16.
 use native.Mathlib.Omega.{arith}
 use Prim.Native.Nat.{ℕ, ◌+◌, ◌-◌, ◌*◌, ◌/◌, ◌%◌, ◌<◌}
 use mathlib.Core.Path.{◌≡◌, ap, ◌∙◌}
@@ -14,6 +14,9 @@ press_parts n rounds h = (omega (arith, h), omega (arith, h))
 
 pub find_parts : (node : ℕ) → (find_code (accept (some node)) / 32 - 1 ≡ node) × (find_code (accept (some node)) % 32 ≡ 0) × (0 < find_code (accept (some node)))
 find_parts node = (omega arith, omega arith, omega arith)
+
+pub free_parts : (left : ℕ) → (left * 32 / 32 ≡ left) × (left * 32 % 32 ≡ 0)
+free_parts left = (omega arith, omega arith)
 
 module _ (a c m : ℕ) (ha : a < 65536) (hc : c < 65536) (hm : m < 65536) where
   abbrev w : ℕ

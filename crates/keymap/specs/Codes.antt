@@ -4,8 +4,7 @@ use Rattle.std.specs.Prelude.{Ok, Err, ℕ, ◌+◌, ◌*◌, ◌≡◌, List, l
 use Rattle.std.proofs.Math.Option.{Option, none, some}
 use Rattle.rules.specs.Basics.{Result, accept, refuse, ◌>>=◌, unless}
 use Rattle.rules.specs.Values.{largest}
-use Rattle.rules.specs.Graph.{Graph}
-use Rattle.rules.specs.Calls.{Machine, graph_kind, bind, settled, repeat_call, Answer, Accepted, Refused, Popped, Nothing, Pressed, PressRefused, HintFits}
+use Rattle.rules.specs.Calls.{Machine, graph_kind, bind, settled, repeat_call, Answer, Accepted, Refused, Popped, Nothing, Pressed, PressRefused}
 use Rattle.rules.specs.MapFile.{read_binding, at_end, read_map}
 use Rattle.keyvalues.specs.declared.refusal.Refusal.{Refusal}
 use Rattle.keyvalues.specs.View.{number_of}
@@ -36,12 +35,6 @@ abbrev pub find_code : Result (Option ℕ) → ℕ
 find_code (refuse n) = n
 find_code (accept none) = 0
 find_code (accept (some node)) = (node + 1) * 32
-
--- the number is 32 times a node hint that fits
-pub record Hints (g : Graph) (number : ℕ) : Type 0 where
-  pub nodes : ℕ
-  pub fits : HintFits g nodes
-  pub told : number ≡ nodes * 32
 
 -- ---- calls
 

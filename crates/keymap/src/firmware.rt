@@ -1,12 +1,12 @@
 // What C calls. `keymap.h` says what it lends. Each call on the one scanner that C keeps is that of lent.rt, with its answer as a
 // number; beside them stand the bytes of a scanner, and the run, which needs none.
-ghost use Rattle.std.specs.Prelude.{◌≡◌, length};
+ghost use Rattle.std.specs.Prelude.{◌*◌, ◌≡◌, length};
 ghost use Rattle.std.proofs.Math.Option.{none};
-ghost use Rattle.rules.specs.Calls.{graph_kind, call, mode_call, Press, Pop, Repeats, Reset, find};
+ghost use Rattle.rules.specs.Calls.{graph_kind, call, mode_call, Press, Pop, Repeats, Reset, find, hint};
 ghost use Rattle.rules.specs.Run.{pair_bytes, run, answered};
 ghost use Rattle.rules.specs.Writing.{write_call};
 ghost use Rattle.keymachine.specs.View.{scanner_of};
-ghost use Rattle.keymap.specs.Codes.{coded, open_map, bind_map, repeat_over, find_code, Hints, scanner_bytes};
+ghost use Rattle.keymap.specs.Codes.{coded, open_map, bind_map, repeat_over, find_code, scanner_bytes};
 
 use crate::{codes, lent};
 use keymachine::scanner::Scanner;
@@ -77,7 +77,7 @@ pub fn keymap_find(m: &Scanner, mode: u16, action: u16) -> u64
 }
 
 pub fn keymap_free(m: &Scanner) -> u64
-    ensures { Hints (scanner_of m.now).bindings result }
+    ensures { result ≡ hint (scanner_of m.now).bindings * 32 }
 {
     (lent::free_nodes(m) as u64) * 32
 }

@@ -1,7 +1,7 @@
 // One scanner, lent to each call. Each function changes or looks at the part of it that its call is about, and a refused call
 // leaves the machine as it was.
 ghost use Rattle.std.specs.Prelude.{◌≡◌, ◌≤◌, min, length, IfOk};
-ghost use Rattle.rules.specs.Calls.{graph_kind, call, mode_call, bind, settled, Open, Press, Pop, Repeats, Reset, HintFits, find};
+ghost use Rattle.rules.specs.Calls.{graph_kind, call, mode_call, bind, settled, Open, Press, Pop, Repeats, Reset, find, hint};
 ghost use Rattle.rules.specs.Writing.{write_call};
 ghost use Rattle.keyvalues.specs.View.{maybe_of, told, said_of};
 ghost use Rattle.keytables.specs.View.{whole_tables};
@@ -120,7 +120,7 @@ pub fn find(m: &Scanner, mode: u16, action: u16) -> Result<Option<u16>, Refusal>
 }
 
 pub fn free_nodes(m: &Scanner) -> u16
-    ensures { HintFits (scanner_of m.now).bindings result }
+    ensures { result ≡ hint (scanner_of m.now).bindings }
 {
     m.machine.map.graph.free_nodes()
 }

@@ -1,13 +1,13 @@
 // What C calls: the archive of the functions of `keymap::firmware`, with their clauses. `include/keymap.h` says what it lends.
 #![tactic(auto)]
 
-ghost use Rattle.std.specs.Prelude.{◌≡◌, length};
+ghost use Rattle.std.specs.Prelude.{◌*◌, ◌≡◌, length};
 ghost use Rattle.std.proofs.Math.Option.{none};
-ghost use Rattle.rules.specs.Calls.{graph_kind, call, mode_call, Press, Pop, Repeats, Reset, find};
+ghost use Rattle.rules.specs.Calls.{graph_kind, call, mode_call, Press, Pop, Repeats, Reset, find, hint};
 ghost use Rattle.rules.specs.Run.{pair_bytes, run, answered};
 ghost use Rattle.rules.specs.Writing.{write_call};
 ghost use Rattle.keymachine.specs.View.{scanner_of};
-ghost use Rattle.keymap.specs.Codes.{coded, open_map, bind_map, repeat_over, find_code, Hints, scanner_bytes};
+ghost use Rattle.keymap.specs.Codes.{coded, open_map, bind_map, repeat_over, find_code, scanner_bytes};
 
 use keymachine::scanner::Scanner;
 use keymap::firmware;
@@ -84,7 +84,7 @@ pub extern "C" fn keymap_find(m: &Scanner, mode: u16, action: u16) -> u64
 
 #[unsafe(no_mangle)]
 pub extern "C" fn keymap_free(m: &Scanner) -> u64
-    ensures { Hints (scanner_of m.now).bindings result }
+    ensures { result ≡ hint (scanner_of m.now).bindings * 32 }
 {
     firmware::keymap_free(m)
 }

@@ -11,7 +11,7 @@ use lib.Seq.{set_out, take-set-lt, take-suc-set}
 use borrow.Author.Tests.{lt-ltb, le-ltb, eq-eqb, ne_eqb}
 use Rattle.rules.specs.Basics.{accept, refuse, unless}
 use Rattle.rules.specs.Graph.{add_node, get_node, settle}
-use Rattle.rules.specs.Calls.{HintFits, nodes_left}
+use Rattle.rules.specs.Calls.{nodes_made, hint}
 use Rattle.keyparts.specs.declared.graph.Graph as d
 use Rattle.keyvalues.specs.declared.node.NodeWords.{NodeWords}
 use Rattle.keyvalues.specs.View.{node_in, holds_step, graph_by}
@@ -74,10 +74,9 @@ module _ (x : d.Graph) (long : length x.nodes ≡ 1040) where
   pub nodes_total : length (nodes_from x.nodes x.counts.nodes) ≡ min x.counts.nodes 1040
   nodes_total = omega (arith, length-map (take x.counts.nodes x.nodes) node_in, length-take x.counts.nodes x.nodes)
 
-  -- the hint: what is left beside the nodes that are there
-  pub hint_fits : HintFits (graph_of x) (1040 - x.counts.nodes)
-  unfolding nodes_left graph_of
-  hint_fits = (omega (arith, nodes_total), λ z. omega (arith, nodes_total))
+  pub nodes_left : 1024 - (x.counts.nodes - 16) ≡ hint (graph_of x)
+  unfolding nodes_made hint graph_of
+  nodes_left = omega (arith, nodes_total)
 
   module _ (p : NodeWords) where
     pub node_added : x.counts.nodes < 1040

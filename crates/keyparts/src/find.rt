@@ -1,6 +1,6 @@
 // Finding a node by its mode and an action of its step, and the hint.
 ghost use Rattle.std.specs.Prelude.{◌≡◌};
-ghost use Rattle.rules.specs.Calls.{HintFits, find, holds_action};
+ghost use Rattle.rules.specs.Calls.{find, hint, holds_action};
 ghost use Rattle.keyvalues.specs.View.{maybe_of, node_in, told};
 ghost use Rattle.keyparts.specs.View.{graph_of};
 
@@ -34,11 +34,11 @@ impl Graph {
         Ok(place.map(|n| n as u16))
     }
 
-    // How many nodes are left.
-    #[tactic(auto, using(crate::proofs::Stores::hint_fits))]
+    // How many nodes are left: all that may be made, less those beside the roots.
+    #[tactic(auto, using(crate::proofs::Stores::nodes_left))]
     pub fn free_nodes(&self) -> u16
-        ensures { HintFits (graph_of self.now) result }
+        ensures { result ≡ hint (graph_of self.now) }
     {
-        Graph::NODES.saturating_sub(self.counts.nodes)
+        Graph::MADE.saturating_sub(self.counts.nodes.saturating_sub(Graph::ROOTS))
     }
 }

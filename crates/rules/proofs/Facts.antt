@@ -2,7 +2,8 @@
 -- one edge: only `add_edge` changes the edge table, and it replaces an edge that has the same start and event (Grown, Reached);
 -- kept calls: a binding call is kept only while fewer than 1,024 are (Reached);
 -- the stack: a round puts back at most what it took, where a key that decomposes counts for two (Rounds, Reached);
--- popping: each pop takes the first pair; the refusals: each number stands at the one place where it is met (Grown, Rounds, Refusals).
+-- popping: each pop takes the first pair; refused calls: `settled` and `pressed` hand back the machine before the call;
+-- the refusals: each number stands at the one place where it is met (Grown, Rounds, Refusals).
 use Prim.Native.Nat.{ℕ, suc, ◌/◌, ◌%◌, ◌≤◌, ◌<◌}
 use native.Mathlib.Omega.{arith}
 use mathlib.Core.Path.{◌≡◌, refl, ap}
@@ -16,16 +17,16 @@ use Rattle.rules.specs.Values.{largest, most_trail, Any, Part, Step, Binding, Co
 use Rattle.rules.specs.Tables.{Tables}
 use Rattle.rules.specs.Graph.{Edge, Graph}
 use Rattle.rules.specs.KeyLoop.{Shared, fresh_shared, with_queue, Navigator, State, at, Input, round}
-use Rattle.rules.specs.Calls.{Kind, Machine, with_state, navigate, graph_kind, Call, Pop, Popped, Nothing}
-use Rattle.rules.specs.Calls.{fresh, open_with, map_call, prefix_call, key_call, repeat_call, reset_call, popped, call, history, leaves}
+use Rattle.rules.specs.Calls.{Kind, Machine, with_state, navigate, graph_kind, Call, Open, Map, Prefix, Press, Pop, Repeats, Reset, Popped, Nothing}
+use Rattle.rules.specs.Calls.{fresh, open_with, map_call, prefix_call, key_call, repeat_call, reset_call, settled, pressed, popped, call, history, leaves}
 use Rattle.rules.specs.MapFile.{read_map}
 use Rattle.rules.specs.Run.{pair_bytes, emptied, run, code_of}
 use Rattle.rules.specs.Writing.{write_map, written}
 use Rattle.rules.proofs.Examples.{refusal_of}
 use Rattle.rules.proofs.Tests.{by_cases, eqb_is, T_and}
-use Rattle.rules.proofs.Runs.{says_refused}
+use Rattle.rules.proofs.Runs.{is_refusal}
 use Rattle.rules.proofs.Results.{Always, accepts, refuses, Whatever, value, always_unless}
-use Rattle.rules.proofs.Grown.{single_place}
+use Rattle.rules.proofs.Grown.{any_grows, single_place}
 use Rattle.rules.proofs.Weights.{Each, length-weight}
 use Rattle.rules.proofs.Rounds.{Bounded, splits}
 use Rattle.rules.proofs.Reached.{leaves_single, fresh_single, Is16, KeyIs16, begins_bounded, round_keeps, leaves_few, leaves_short}
@@ -104,6 +105,34 @@ emptied_pops s m = go m.shared.queue
     go [] = (refl, refl)
     go (p ∷ ps) = let k = go ps in (ap (λ xs. Popped p ∷ xs) k.0, k.1)
 
+-- ---- a refused call leaves the machine as it was
+
+-- any call, of any machine
+pub refused_leaves_all : (𝓚 : Kind) (s : Machine 𝓚) (c : Call) → T (is_refusal (call 𝓚 s c).1) → (call 𝓚 s c).0 ≡ s
+unfolding call settled pressed popped
+refused_leaves_all 𝓚 s c = go c
+  where
+    after_result : (r : Result (Machine 𝓚)) → T (is_refusal (settled 𝓚 s r).1) → (settled 𝓚 s r).0 ≡ s
+    after_result (accept s₁) h = absurd h
+    after_result (refuse n) h = refl
+
+    after_key : (rounds : ℕ) (r : Result (State 𝓚.Place)) → T (is_refusal (pressed 𝓚 s rounds r).1) → (pressed 𝓚 s rounds r).0 ≡ s
+    after_key rounds (accept m) h = absurd h
+    after_key rounds (refuse n) h = refl
+
+    after_pop : (ps : List Pair) → T (is_refusal (popped 𝓚 s ps).1) → (popped 𝓚 s ps).0 ≡ s
+    after_pop [] h = refl
+    after_pop (p ∷ ps) h = absurd h
+
+    go : (c : Call) → T (is_refusal (call 𝓚 s c).1) → (call 𝓚 s c).0 ≡ s
+    go (Open t) = after_result (open_with 𝓚 t)
+    go (Map mode path st) = after_result (map_call 𝓚 mode path st s)
+    go (Prefix mode path os) = after_result (prefix_call 𝓚 mode path os s)
+    go (Press i) = let r = key_call 𝓚 i s in after_key r.rounds r.result
+    go Pop = after_pop s.state.shared.queue
+    go (Repeats q over) = after_result (repeat_call 𝓚 q over s)
+    go Reset = after_result (reset_call 𝓚 s)
+
 -- ---- the refusals of each operation
 
 -- refused, if at all, with one of these numbers
@@ -123,12 +152,12 @@ open_refuses 𝓚 t = among (1 ∷ []) (open_always 𝓚 tt t)
 -- map: 1, 2, 3, 4, 11
 pub map_refuses : (mode : ℕ) (path : List Part) (st : Step) (s : Machine graph_kind) → RefusedAmong (1 ∷ 2 ∷ 3 ∷ 4 ∷ 11 ∷ []) (map_call graph_kind mode path st s)
 unfolding some_of
-map_refuses mode path st s = among (1 ∷ 2 ∷ 3 ∷ 4 ∷ 11 ∷ []) (map_always tt tt tt tt tt (λ _. Unit {0}) (λ _ _ _ _ _. tt) mode path st s tt)
+map_refuses mode path st s = among (1 ∷ 2 ∷ 3 ∷ 4 ∷ 11 ∷ []) (map_always tt tt tt tt tt (λ g. Unit {0}) any_grows mode path st s tt)
 
 -- prefix: the same
 pub prefix_refuses : (mode : ℕ) (path : List Part) (os : Option Step) (s : Machine graph_kind) → RefusedAmong (1 ∷ 2 ∷ 3 ∷ 4 ∷ 11 ∷ []) (prefix_call graph_kind mode path os s)
 unfolding some_of
-prefix_refuses mode path os s = among (1 ∷ 2 ∷ 3 ∷ 4 ∷ 11 ∷ []) (prefix_always tt tt tt tt tt (λ _. Unit {0}) (λ _ _ _ _ _. tt) mode path os s tt)
+prefix_refuses mode path os s = among (1 ∷ 2 ∷ 3 ∷ 4 ∷ 11 ∷ []) (prefix_always tt tt tt tt tt (λ g. Unit {0}) any_grows mode path os s tt)
 
 -- a key, of any machine: 8, 12, 6, 5, 7
 pub key_refuses : (𝓚 : Kind) (i : Input) (s : Machine 𝓚) → RefusedAmong (8 ∷ 12 ∷ 6 ∷ 5 ∷ 7 ∷ []) (key_call 𝓚 i s).result
@@ -146,11 +175,11 @@ unfolding some_of
 reset_refuses 𝓚 s = among (6 ∷ 5 ∷ []) (reset_always 𝓚 tt tt s)
 
 -- a pop, of any machine: none
-pub pop_never_refuses : (𝓚 : Kind) (s : Machine 𝓚) (n : ℕ) → says_refused n (call 𝓚 s Pop).1 ≡ false
+pub pop_never_refuses : (𝓚 : Kind) (s : Machine 𝓚) → is_refusal (call 𝓚 s Pop).1 ≡ false
 unfolding call popped
-pop_never_refuses 𝓚 s n = go s.state.shared.queue
+pop_never_refuses 𝓚 s = go s.state.shared.queue
   where
-    go : (ps : List Pair) → says_refused n (popped 𝓚 s ps).1 ≡ false
+    go : (ps : List Pair) → is_refusal (popped 𝓚 s ps).1 ≡ false
     go [] = refl
     go (p ∷ ps) = refl
 

@@ -1,64 +1,75 @@
--- A graph that grows: adding refuses with 2, 3 or 4 alone, and its edge table changes by `add_edge` alone. So whatever a stored
--- edge keeps is kept by every map and prefix call; for one, that of one start and one event there is at most one edge.
+-- A graph that grows: adding refuses with 2, 3 or 4 alone, and does three things to a graph: a node is made behind the others, a
+-- node gets a step, and an edge is stored. So whatever these keep is kept by every map and prefix call: that nodes are never fewer
+-- and at most 16 + 1,024, and that of one start and one event there is at most one edge.
 use Rattle.std.specs.Prelude.{if◌then◌else◌}
-use Prim.Native.Nat.{ℕ, zero, suc, ◌+◌, ◌<◌, max}
+use Prim.Native.Nat.{ℕ, zero, suc, ◌+◌, ◌≤◌, ◌<◌, max}
 use native.Mathlib.Omega.{arith}
 use mathlib.Core.Path.{◌≡◌, refl, sym, ap, ap₂, ◌∙◌}
 use mathlib.Core.Bool.{Bool, true, false, ◌&&◌, true≢false}
 use mathlib.Core.Option.{Option, none, some}
 use mathlib.Core.List.{List, [], ◌∷◌, ◌++◌}
-use lib.Dec.{T, ltb, eqb}
-use lib.ListN.{length, get_or}
+use lib.Dec.{T, ltb, ltb→lt, eqb}
+use lib.ListN.{length, get_or, set, length-append, length-set}
 use Rattle.rules.specs.Basics.{is_there}
 use Rattle.rules.specs.Values.{mode_count, most_nodes, most_edges, Event, Fallthrough, same_event, Repeat, Once, Min, Max, Part, Step}
-use Rattle.rules.specs.Graph.{NodeAction, Empty, Root, Holds, Edge, Graph, is_edge, end_in, get_edge, get_node, add_node, replace_in, put_edge, add_edge, settle, upsert_at, upsert_node}
+use Rattle.rules.specs.Graph.{NodeAction, Empty, Root, Holds, Node, Edge, Graph, is_edge, end_in, get_edge, get_node, add_node, replace_in, put_edge, add_edge, settle, upsert_at, upsert_node}
 use Rattle.rules.specs.Graph.{Cursor, cursor, edge_to, edge_between, node_for, add_simple_step, add_simples, add_optionals, add_min, add_max, add_repeat, go_on, add_intermediate}
 use Rattle.rules.specs.Graph.{map_last, map_fall, map_path, add_mapping, action_of, prefix_last, prefix_path, add_prefix}
 use Rattle.rules.proofs.Tests.{by_cases, void, and_false, eqb_is, event_is}
-use Rattle.rules.proofs.Results.{Always, accepts, always_bind, always_unless, always_if}
-use Rattle.rules.proofs.Edges.{edge, stored, is_edge_lem, edge_is, end_other, replaced, appended}
+use Rattle.rules.proofs.Results.{Always, accepts, always_bind, unless_so, always_unless, always_if}
+use Rattle.rules.proofs.Edges.{edge, stored, put, is_edge_lem, edge_is, end_other, replaced, appended}
 
--- ---- what every stored edge keeps, every call keeps
+-- ---- what a node made, a step given and an edge stored keep, every call keeps
 
-module _ (E : List Edge → Type 0) where
-  abbrev Of : Graph → Type 0
-  Of g = E g.edges
+-- G is kept by all three
+pub record Grows (G : Graph → Type 0) : Type 0 where
+  pub made : (g : Graph) (x : Node) → length g.nodes < mode_count + most_nodes → G g → G (record { nodes = g.nodes ++ (x ∷ []); edges = g.edges })
+  pub given : (g : Graph) (n : ℕ) (x : Node) → G g → G (record { nodes = set g.nodes n x; edges = g.edges })
+  pub joined : (g : Graph) (n : ℕ) (ev : Event) (to : ℕ) → G g → G (put g g.nodes n ev to)
 
+-- of whatever graph
+pub any_grows : Grows (λ g. Unit {0})
+any_grows = record { made = λ g x l h. tt; given = λ g n x h. tt; joined = λ g n ev to h. tt }
+
+module _ (G : Graph → Type 0) where
   abbrev OfNew : Graph × ℕ → Type 0
-  OfNew r = E r.0.edges
+  OfNew r = G r.0
 
   abbrev OfPath : Cursor → Type 0
-  OfPath c = E c.graph.edges
+  OfPath c = G c.graph
 
   abbrev OfNode : Cursor × ℕ → Type 0
-  OfNode r = E r.0.graph.edges
+  OfNode r = G r.0.graph
 
-  module _ {N : ℕ → Bool} (two : T (N 2)) (three : T (N 3)) (four : T (N 4))
-      (keep : (xs : List Edge) (n : ℕ) (ev : Event) (to : ℕ) → E xs → E (stored xs (edge n ev to))) where
-    node : (mode : ℕ) (x : NodeAction) (g : Graph) → Of g → Always N OfNew (add_node mode x g)
+  module _ {N : ℕ → Bool} (two : T (N 2)) (three : T (N 3)) (four : T (N 4)) (grows : Grows G) where
+    node : (mode : ℕ) (x : NodeAction) (g : Graph) → G g → Always N OfNew (add_node mode x g)
     unfolding add_node
-    node mode x g h = always_unless (ltb (length g.nodes) (mode_count + most_nodes)) 2 two (accepts h)
+    node mode x g h =
+        let most = mode_count + most_nodes in
+        unless_so (ltb (length g.nodes) most) 2 two (λ so. accepts (grows.made g _ (ltb→lt (length g.nodes) most so) h))
 
-    add : (from to : ℕ) (ev : Event) (g : Graph) → Of g → Always N Of (add_edge from to ev g)
+    add : (from to : ℕ) (ev : Event) (g : Graph) → G g → Always N G (add_edge from to ev g)
     unfolding add_edge put_edge get_edge
     add from to ev g h = go (end_in g.edges from ev) refl
       where
-        now : E (stored g.edges (edge from ev to))
-        now = keep g.edges from ev to h
+        now : G (put g g.nodes from ev to)
+        now = grows.joined g from ev to h
 
-        go : (o : Option ℕ) → end_in g.edges from ev ≡ o → Always N Of (put_edge (edge from ev to) g o)
-        go (some old) e = let k : E (replace_in g.edges (edge from ev to)) = rw (replaced g.edges from ev to (ap is_there e)) now in accepts k
+        go : (o : Option ℕ) → end_in g.edges from ev ≡ o → Always N G (put_edge (edge from ev to) g o)
+        go (some old) e =
+            let k : G (record { nodes = g.nodes; edges = replace_in g.edges (edge from ev to) }) = rw (replaced g.edges from ev to (ap is_there e)) now in
+            accepts k
         go none e =
-            let k : E (g.edges ++ (edge from ev to ∷ [])) = rw (appended g.edges from ev to e) now in
+            let k : G (record { nodes = g.nodes; edges = g.edges ++ (edge from ev to ∷ []) }) = rw (appended g.edges from ev to e) now in
             always_unless (ltb (length g.edges) most_edges) 3 three (accepts k)
 
-    settles : (mode n : ℕ) (x : NodeAction) (g : Graph) → Of g → Always N OfNew (settle mode n x g)
+    settles : (mode n : ℕ) (x : NodeAction) (g : Graph) → G g → Always N OfNew (settle mode n x g)
     unfolding settle
     settles mode n Empty g h = accepts h
     settles mode n Root g h = accepts h
-    settles mode n (Holds s) g h = always_unless (eqb (get_node g n).mode mode) 4 four (accepts h)
+    settles mode n (Holds s) g h = always_unless (eqb (get_node g n).mode mode) 4 four (accepts (grows.given g n _ h))
 
-    upserts : (mode : ℕ) (x : NodeAction) (g : Graph) (o : Option ℕ) → Of g → Always N OfNew (upsert_at mode x g o)
+    upserts : (mode : ℕ) (x : NodeAction) (g : Graph) (o : Option ℕ) → G g → Always N OfNew (upsert_at mode x g o)
     unfolding upsert_at
     upserts mode x g (some n) h = settles mode n x g h
     upserts mode x g none h = node mode x g h
@@ -79,7 +90,7 @@ module _ (E : List Edge → Type 0) where
     unfolding add_simple_step upsert_node
     simple mode ev x c h =
         always_bind (upserts mode x c.graph (get_edge c.graph c.prev ev) h)
-        (λ r k. always_bind (always_if {X = Of} c.fallthrough (add c.prev r.1 Fallthrough r.0 k) (accepts k))
+        (λ r k. always_bind (always_if {X = G} c.fallthrough (add c.prev r.1 Fallthrough r.0 k) (accepts k))
         (λ g l. always_bind (add c.prev r.1 ev g l) (λ g₁ m. accepts m)))
 
     simples : (n mode : ℕ) (ev : Event) (c : Cursor) → OfPath c → Always N OfPath (add_simples n mode ev c)
@@ -153,7 +164,7 @@ module _ (E : List Edge → Type 0) where
     map_path_lem mode (p ∷ []) s c h = always_bind (map_end mode p.repeat p.event s c h) (λ c₁ k. map_fall_lem s.fallthrough c₁ k)
     map_path_lem mode (p ∷ q ∷ ps) s c h = always_bind (intermediate mode p c h) (λ c₁ k. map_path_lem mode (q ∷ ps) s c₁ k)
 
-    pub map_grows : (mode : ℕ) (ps : List Part) (s : Step) (g : Graph) → Of g → Always N Of (add_mapping mode ps s g)
+    pub map_grows : (mode : ℕ) (ps : List Part) (s : Step) (g : Graph) → G g → Always N G (add_mapping mode ps s g)
     unfolding add_mapping
     map_grows mode ps s g h = always_bind (map_path_lem mode ps s (cursor g mode false) h) (λ c k. accepts k)
 
@@ -184,9 +195,22 @@ module _ (E : List Edge → Type 0) where
     prefix_path_lem mode single (p ∷ []) os c h = prefix_end mode single p.repeat p.event os c h
     prefix_path_lem mode single (p ∷ q ∷ ps) os c h = always_bind (intermediate mode p c h) (λ c₁ k. prefix_path_lem mode false (q ∷ ps) os c₁ k)
 
-    pub prefix_grows : (mode : ℕ) (ps : List Part) (os : Option Step) (g : Graph) → Of g → Always N Of (add_prefix mode ps os g)
+    pub prefix_grows : (mode : ℕ) (ps : List Part) (os : Option Step) (g : Graph) → G g → Always N G (add_prefix mode ps os g)
     unfolding add_prefix
     prefix_grows mode ps os g h = always_bind (prefix_path_lem mode true ps os (cursor g mode false) h) (λ c k. accepts k)
+
+-- ---- at least so many nodes as there were, and at most 16 + 1,024
+
+pub record NodesBetween (least : ℕ) (g : Graph) : Type 0 where
+  pub grown : least ≤ length g.nodes
+  pub room : length g.nodes ≤ mode_count + most_nodes
+
+pub nodes_grow : (least : ℕ) → Grows (NodesBetween least)
+nodes_grow least = record {
+  made = λ g x l h. let n = length-append g.nodes (x ∷ []) in record { grown = omega (arith, n, h.grown); room = omega (arith, n, l) };
+  given = λ g n x h. let l = length-set g.nodes n x in record { grown = omega (arith, l, h.grown); room = omega (arith, l, h.room) };
+  joined = λ g n ev to h. record { grown = h.grown; room = h.room };
+}
 
 -- ---- of one start and one event at most one edge
 
@@ -195,7 +219,7 @@ abbrev pub Single : List Edge → Type 0
 Single [] = Unit {0}
 Single (x ∷ xs) = (end_in xs x.from x.event ≡ none) × Single xs
 
-pub stored_single : (xs : List Edge) (n : ℕ) (ev : Event) (to : ℕ) → Single xs → Single (stored xs (edge n ev to))
+stored_single : (xs : List Edge) (n : ℕ) (ev : Event) (to : ℕ) → Single xs → Single (stored xs (edge n ev to))
 unfolding end_in is_edge
 stored_single [] n ev to h = (refl, tt)
 stored_single (x ∷ xs) n ev to h =
@@ -205,6 +229,12 @@ stored_single (x ∷ xs) n ev to h =
   where
     met : eqb n x.from ≡ true → same_event ev x.event ≡ true → is_edge n ev x ≡ true
     met p q = ap₂ (λ u v. is_edge u v x) (eqb_is n x.from p) (event_is ev x.event q) ∙ is_edge_lem x.from x.event x.to
+
+abbrev pub OneEdge : Graph → Type 0
+OneEdge g = Single g.edges
+
+pub one_edge_grows : Grows OneEdge
+one_edge_grows = record { made = λ g x l h. h; given = λ g n x h. h; joined = λ g n ev to h. stored_single g.edges n ev to h }
 
 -- by places: two edges of one start and one event stand at one place
 module _ (d : Edge) where

@@ -1,9 +1,9 @@
 -- What is proved of the rules. Table, Examples and Rows: runs that compute. Numbers: reading and writing. Demand3: the graph
 -- machine and the list reader agree; the files above it, from Tests on, are its lemmas. PlainCalls: which calls it is about.
 -- Facts: edges, kept calls, stack, popping, refusals; the files above it, from Grown on, are its lemmas.
--- Find: what find gives, said without computing it. Counting: digits count to their number, or one is refused. OnePass: one
--- pass through the edges is following; Ranks has its lemmas. RoundTrip: a written map is read, and a map that was read is
--- written; the files above it, from Formats on, are its lemmas.
+-- Find: what find gives, said without computing it. Counting: digits count to their number, or one is refused. Hint: the nodes that
+-- calls made, and those that are left. OnePass: one pass through the edges is following; Ranks has its lemmas. RoundTrip: a
+-- written map is read, and a map that was read is written; the files above it, from Formats on, are its lemmas.
 pub mod Table
 pub mod Examples
 pub mod Rows
@@ -27,6 +27,7 @@ pub mod Reached
 pub mod Facts
 pub mod Find
 pub mod Counting
+pub mod Hint
 pub mod Ranks
 pub mod OnePass
 pub mod Formats

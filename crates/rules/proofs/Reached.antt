@@ -10,12 +10,12 @@ use lib.ListN.{length, length-append}
 use Rattle.rules.specs.Basics.{Result, accept, refuse, ◌>>=◌, unless}
 use Rattle.rules.specs.Values.{largest, most_kept, most_trail, rest_of, map_valid, prefix_valid, Binding, Maps, Prefixes, Pair}
 use Rattle.rules.specs.Tables.{Tables}
-use Rattle.rules.specs.Graph.{Graph, fresh_graph}
+use Rattle.rules.specs.Graph.{fresh_graph}
 use Rattle.rules.specs.KeyLoop.{fresh_shared, Navigator, State, Input, round, input_key}
 use Rattle.rules.specs.Calls.{Kind, Machine, with_state, navigate, graph_kind, Call, Open, Map, Prefix, Press, Pop, Repeats, Reset}
 use Rattle.rules.specs.Calls.{fresh, keep, map_call, prefix_call, key_call, settled, pressed, popped, call, leaves}
 use Rattle.rules.proofs.Results.{Always, accepts, refuses, Whatever, always_bind, always_more, unless_so}
-use Rattle.rules.proofs.Grown.{Single, stored_single}
+use Rattle.rules.proofs.Grown.{OneEdge, one_edge_grows}
 use Rattle.rules.proofs.Weights.{Each, weight_by}
 use Rattle.rules.proofs.Rounds.{Bounded, splits, halves, weight_16, round_bounded, loop_bounded}
 use Rattle.rules.proofs.Refusals.{SameMap, Stays, open_always, keep_always, key_always, repeat_always, reset_always, map_always, prefix_always}
@@ -58,16 +58,13 @@ module _ (𝓚 : Kind) where
 
 -- ---- one edge of a start and an event
 
-abbrev OneEdge : Graph → Type 0
-OneEdge g = Single g.edges
-
 call_single : (s : Machine graph_kind) (c : Call) → OneEdge s.bindings → OneEdge (call graph_kind s c).0.bindings
 unfolding call fresh fresh_graph
 call_single s (Open t) h =
     let k : OneEdge (fresh graph_kind t).bindings = tt in
     settled_keeps graph_kind (λ x. OneEdge x.bindings) s h (always_more (λ x e. rw e k) (open_always graph_kind tt t))
-call_single s (Map mode path st) h = settled_keeps graph_kind (λ x. OneEdge x.bindings) s h (map_always tt tt tt tt tt Single stored_single mode path st s h)
-call_single s (Prefix mode path os) h = settled_keeps graph_kind (λ x. OneEdge x.bindings) s h (prefix_always tt tt tt tt tt Single stored_single mode path os s h)
+call_single s (Map mode path st) h = settled_keeps graph_kind (λ x. OneEdge x.bindings) s h (map_always tt tt tt tt tt OneEdge one_edge_grows mode path st s h)
+call_single s (Prefix mode path os) h = settled_keeps graph_kind (λ x. OneEdge x.bindings) s h (prefix_always tt tt tt tt tt OneEdge one_edge_grows mode path os s h)
 call_single s (Press i) h = rw (key_map graph_kind i s).bindings h
 call_single s Pop h = rw (popped_stays graph_kind s s.state.shared.queue).0.bindings h
 call_single s (Repeats q over) h = rw (settled_stays graph_kind s (repeat_always graph_kind tt tt q over s)).0.bindings h

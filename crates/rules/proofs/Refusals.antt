@@ -1,5 +1,5 @@
 -- The refusals of each operation, by the order of its work: what a call of the machine, the reading of a map file and a run may
--- come to. What a map or prefix call keeps of the edge table, and other calls of tables, bindings and kept calls, goes along.
+-- come to. What a map or prefix call keeps of the graph, and other calls of tables, bindings and kept calls, goes along.
 use Prim.Native.Nat.{ℕ, zero, suc, ◌+◌, min}
 use native.Mathlib.Omega.{arith}
 use mathlib.Core.Path.{◌≡◌, refl}
@@ -10,17 +10,16 @@ use lib.Dec.{T, leb, ltb}
 use lib.ListN.{length, get_or}
 use Rattle.rules.specs.Basics.{Result, accept}
 use Rattle.rules.specs.Values.{largest, mode_count, most_classes, most_actions, most_rules, most_parts, most_kept, most_queued, most_trail, default_mode, is_mode, is_class, is_sequence, is_status, is_repeat}
-use Rattle.rules.specs.Values.{Event, Part, Step, map_valid, prefix_valid, Binding, Maps, Prefixes, Context, Pair}
+use Rattle.rules.specs.Values.{Part, Step, map_valid, prefix_valid, Binding, Maps, Prefixes, Context, Pair}
 use Rattle.rules.specs.Tables.{Tables, tables_valid}
-use Rattle.rules.specs.Graph.{Edge}
+use Rattle.rules.specs.Graph.{Graph}
 use Rattle.rules.specs.KeyLoop.{no_tracker, tracker, fetch, with_sequences, Input, input_key, reset_mode, repeat_sequence}
 use Rattle.rules.specs.Calls.{Kind, Machine, graph_kind, fresh, navigate, open_with, keep, map_call, prefix_call, bind, key_call, repeat_call, reset_call}
 use Rattle.rules.specs.Numbers.{groups, value_of, shortest, number_up_to, number}
 use Rattle.rules.specs.MapFile.{Reader, then_read, lifted, such, times, list_of, read_actions, read_optional_mode, read_class, read_mode, read_rule, read_tables, repeat_by, event_by, read_part, read_step, binding_by, read_binding, read_bindings, at_end, read_map}
 use Rattle.rules.specs.Run.{most_output, numbers_in, read_keys, pair_bytes, emptied, play_keys, run}
 use Rattle.rules.proofs.Results.{Always, accepts, refuses, Whatever, always_bind, always_more, always_unless, always_if}
-use Rattle.rules.proofs.Edges.{edge, stored}
-use Rattle.rules.proofs.Grown.{map_grows, prefix_grows}
+use Rattle.rules.proofs.Grown.{Grows, any_grows, map_grows, prefix_grows}
 use Rattle.rules.proofs.Weights.{each_key}
 use Rattle.rules.proofs.Rounds.{splits, weight, halves, goto_keeps, loop_bounded}
 
@@ -72,17 +71,17 @@ module _ (𝓚 : Kind) {N : ℕ → Bool} where
       (λ m h. accepts (record { tables = h.0; bindings = refl; kept = refl }, h.1))
 
 module _ {N : ℕ → Bool} (one : T (N 1)) (two : T (N 2)) (three : T (N 3)) (four : T (N 4)) (eleven : T (N 11))
-    (E : List Edge → Type 0) (stays : (xs : List Edge) (n : ℕ) (ev : Event) (to : ℕ) → E xs → E (stored xs (edge n ev to))) where
-  pub map_always : (mode : ℕ) (path : List Part) (st : Step) (s : Machine graph_kind) → E s.bindings.edges → Always N (λ s₁. E s₁.bindings.edges) (map_call graph_kind mode path st s)
+    (G : Graph → Type 0) (grows : Grows G) where
+  pub map_always : (mode : ℕ) (path : List Part) (st : Step) (s : Machine graph_kind) → G s.bindings → Always N (λ s₁. G s₁.bindings) (map_call graph_kind mode path st s)
   unfolding map_call
   map_always mode path st s h =
-      always_bind (always_unless (map_valid mode path st) 1 one (map_grows E two three four stays mode path st s.bindings h))
+      always_bind (always_unless (map_valid mode path st) 1 one (map_grows G two three four grows mode path st s.bindings h))
       (λ g k. always_more (λ s₁ e. rw e.0 k) (keep_always graph_kind eleven (Maps mode path st) s g))
 
-  pub prefix_always : (mode : ℕ) (path : List Part) (os : Option Step) (s : Machine graph_kind) → E s.bindings.edges → Always N (λ s₁. E s₁.bindings.edges) (prefix_call graph_kind mode path os s)
+  pub prefix_always : (mode : ℕ) (path : List Part) (os : Option Step) (s : Machine graph_kind) → G s.bindings → Always N (λ s₁. G s₁.bindings) (prefix_call graph_kind mode path os s)
   unfolding prefix_call
   prefix_always mode path os s h =
-      always_bind (always_unless (prefix_valid mode path os) 1 one (prefix_grows E two three four stays mode path os s.bindings h))
+      always_bind (always_unless (prefix_valid mode path os) 1 one (prefix_grows G two three four grows mode path os s.bindings h))
       (λ g k. always_more (λ s₁ e. rw e.0 k) (keep_always graph_kind eleven (Prefixes mode path os) s g))
 
 -- ---- readers
@@ -188,8 +187,8 @@ module _ {N : ℕ → Bool} (nine : T (N 9)) (one : T (N 1)) where
 
     bind_always : (x : Binding) (s : Machine graph_kind) → Reads N (lifted (bind graph_kind x s))
     unfolding bind
-    bind_always (Maps mode path st) s = call_read (map_always one two three four eleven (λ _. Unit {0}) (λ _ _ _ _ _. tt) mode path st s tt)
-    bind_always (Prefixes mode path st) s = call_read (prefix_always one two three four eleven (λ _. Unit {0}) (λ _ _ _ _ _. tt) mode path st s tt)
+    bind_always (Maps mode path st) s = call_read (map_always one two three four eleven (λ g. Unit {0}) any_grows mode path st s tt)
+    bind_always (Prefixes mode path st) s = call_read (prefix_always one two three four eleven (λ g. Unit {0}) any_grows mode path st s tt)
 
     bindings_always : (n : ℕ) (s : Machine graph_kind) → Reads N (read_bindings n s)
     unfolding read_bindings

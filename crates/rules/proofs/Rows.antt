@@ -15,7 +15,7 @@ use Rattle.rules.specs.Values.{Event, Key, Class, Any, Fallthrough, Repeat, Min,
 use Rattle.rules.specs.Tables.{ClassEntry, ModeEntry, Rule, Tables, no_tables, open-Tables}
 use Rattle.rules.specs.Graph.{NodeAction, Empty, Root, Holds, Node, Graph, fresh_graph, add_node, put_edge, open-Graph}
 use Rattle.rules.specs.KeyLoop.{tracker, no_tracker, open-KeyLoop}
-use Rattle.rules.specs.Calls.{Call, Open, Map, Prefix, Pop, Repeats, Reset, Accepted, Refused, Nothing, PressRefused, Machine, graph_kind, fresh, bind, leaves, holds_action, find, nodes_left, HintFits, open-Calls}
+use Rattle.rules.specs.Calls.{Call, Open, Map, Prefix, Pop, Repeats, Reset, Answer, Accepted, Refused, Popped, Nothing, Pressed, PressRefused, Machine, graph_kind, fresh, bind, call, leaves, holds_action, find, hint, open-Calls}
 use Rattle.rules.specs.Numbers.{open-Numbers}
 use Rattle.rules.specs.MapFile.{read_bindings, read_map, open-MapFile}
 use Rattle.rules.specs.Run.{most_output, most_input, play_budget, lines_of, decimal, refusal, text_of, play_input, keyplay, open-Run}
@@ -477,11 +477,10 @@ pub graphs_hold : (no_tracker ≡ tracker [] false)
     × (default_pair ≡ pair 0 0 0)
     × (map (λ n. refusal_of (put_edge (record { from = 0; event = Key a; to = 0 }) (with_edges n) none)) (2047 ∷ 2048 ∷ []) ≡ 0 ∷ 3 ∷ [])
     × (map (λ n. refusal_of (add_node 0 Empty (with_nodes n))) (1039 ∷ 1040 ∷ []) ≡ 0 ∷ 2 ∷ [])
-    × (map (λ n. nodes_left (with_nodes n)) (16 ∷ 1040 ∷ []) ≡ 1024 ∷ 0 ∷ [])
     × (map (holds_action 3 7) (node Empty ∷ node Root ∷ node (Holds (does 6)) ∷ node (Holds (does 7)) ∷ []) ≡ false ∷ false ∷ false ∷ true ∷ [])
     × (holds_action 2 7 (node (Holds (does 7))) ≡ false)
 unfolding open-Basics open-Values open-Graph open-KeyLoop open-Calls
-graphs_hold = (refl, refl, refl, refl, refl, refl, refl, refl)
+graphs_hold = (refl, refl, refl, refl, refl, refl, refl)
 
 -- a machine that keeps n calls
 abbrev pub keeping : ℕ → Graph → Machine graph_kind
@@ -536,10 +535,37 @@ pub finds_hold : let g = (leaves graph_kind (fresh graph_kind no_tables) shown).
 unfolding open-Basics open-Values open-Tables open-Graph open-KeyLoop open-Calls
 finds_hold = (refl, refl, refl, refl, refl, refl, refl, refl)
 
--- a hint may be 1 while nodes are left, and not 0; when none is left it is 0
-pub hints_hold : HintFits (with_nodes 16) 1 × (HintFits (with_nodes 16) 0 → ⊥) × HintFits (with_nodes 1040) 0 × (HintFits (with_nodes 1040) 1 → ⊥)
-unfolding nodes_left
-hints_hold = ((omega arith, λ z. omega arith), (λ h. omega (arith, h.1 refl)), (omega arith, λ z. refl), (λ h. omega (arith, h.0)))
+-- each call's answer, with the hint after it
+abbrev pub hints : Machine graph_kind → List Call → List (Answer × ℕ)
+hints s [] = []
+hints s (c ∷ cs) = let r = call graph_kind s c in (r.1, hint r.0.bindings) ∷ hints r.0 cs
+
+-- a path of two keys, and one that goes on
+abbrev pub two_keys : Call
+two_keys = Map 3 (once (Key a) ∷ once (Key b) ∷ []) (does 1)
+
+abbrev pub three_keys : Call
+three_keys = Map 3 (once (Key a) ∷ once (Key b) ∷ once (Key j) ∷ []) (does 1)
+
+-- a mode, a number and a count out of range; a key and a pop; and an open
+abbrev pub behind_shown : List Call
+behind_shown = Map 16 (one (Key q)) (does 1) ∷ Prefix 0 (one (Class 256)) none ∷ Open (classes (replicate 17 (class 0 5 5))) ∷ key j ∷ Pop ∷ Open no_tables ∷ []
+
+-- In this order: of graphs by their nodes, where no call makes one of 0, 15 or 1,041; after each call of `shown`, whose prefixes make
+-- no node, nor does the mapping onto a root; behind them what is refused with 1, what binds nothing, and an open that begins anew;
+-- where two nodes are left, three keys (2), two, the same again, a prefix, which needs none, and a key more (2); and two nodes of a
+-- call that has made them when it is refused with 3, and with 11
+pub hints_hold :
+    (map (λ n. hint (with_nodes n)) (0 ∷ 15 ∷ 16 ∷ 17 ∷ 1039 ∷ 1040 ∷ 1041 ∷ []) ≡ 1024 ∷ 1024 ∷ 1024 ∷ 1023 ∷ 1 ∷ 0 ∷ 0 ∷ [])
+    × (map (λ x. x.1) (hints (fresh graph_kind no_tables) shown) ≡ 1023 ∷ 1022 ∷ 1021 ∷ 1020 ∷ 1020 ∷ 1020 ∷ 1019 ∷ 1018 ∷ 1018 ∷ [])
+    × (hints (leaves graph_kind (fresh graph_kind no_tables) shown) behind_shown
+    ≡ (Refused 1, 1018) ∷ (Refused 1, 1018) ∷ (Refused 1, 1018) ∷ (Pressed 1, 1018) ∷ (Popped (pair 0 0 0), 1018) ∷ (Accepted, 1024) ∷ [])
+    × (hints (keeping 0 (with_nodes 1038)) (three_keys ∷ two_keys ∷ two_keys ∷ Prefix 3 (one (Key q)) none ∷ three_keys ∷ [])
+    ≡ (Refused 2, 2) ∷ (Accepted, 0) ∷ (Accepted, 0) ∷ (Accepted, 0) ∷ (Refused 2, 0) ∷ [])
+    × (hints (keeping 0 (record { nodes = fresh_graph.nodes; edges = (with_edges 2047).edges })) (two_keys ∷ []) ≡ (Refused 3, 1024) ∷ [])
+    × (hints (keeping 1024 fresh_graph) (two_keys ∷ []) ≡ (Refused 11, 1024) ∷ [])
+unfolding open-Basics open-Values open-Tables open-Graph open-KeyLoop open-Calls
+hints_hold = (refl, refl, refl, refl, refl, refl)
 
 -- ---- map files and text
 

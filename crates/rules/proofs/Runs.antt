@@ -28,6 +28,12 @@ says_refused n Nothing = false
 says_refused n (Pressed rounds) = false
 says_refused n (PressRefused m rounds) = eqb n m
 
+-- is it a refusal at all?
+abbrev pub is_refusal : Answer → Bool
+is_refusal (Refused n) = true
+is_refusal (PressRefused n rounds) = true
+is_refusal x = false
+
 abbrev pub neither3nor4 : Answer → Bool
 neither3nor4 x = not (says_refused 3 x) && not (says_refused 4 x)
 

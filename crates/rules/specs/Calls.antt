@@ -1,6 +1,6 @@
 -- Document 01, "Refused calls, operation by operation": open, map, prefix, key, pop, repeat, reset and mode on a machine
--- over any store of bindings; the graph machine; lists of calls; find; and what holds of the node hint.
-use Rattle.std.specs.Prelude.{ℕ, suc, ◌+◌, ◌-◌, ◌≤◌, ◌≡◌, Bool, false, ◌&&◌, List, [], ◌∷◌, ◌++◌, eqb, ltb, length, if◌then◌else◌}
+-- over any store of bindings; the graph machine; lists of calls; find; and the node hint.
+use Rattle.std.specs.Prelude.{ℕ, suc, ◌-◌, Bool, false, ◌&&◌, List, [], ◌∷◌, ◌++◌, eqb, ltb, length, if◌then◌else◌}
 use Rattle.std.proofs.Math.Option.{Option, none, some}
 use Rattle.rules.specs.Basics.{Result, accept, refuse, ◌>>=◌, unless, some_of}
 use Rattle.rules.specs.Values.{mode_count, most_nodes, most_kept, is_mode, default_mode, Event, Part, Step, map_valid, prefix_valid, Binding, Maps, Prefixes, Context, Pair}
@@ -200,16 +200,18 @@ first_node p n (x ∷ xs) = if p x then some n else first_node p (suc n) xs
 unfoldable pub find : Graph → ℕ → ℕ → Result (Option ℕ)
 find g mode a = unless (is_mode mode) 1 (accept (first_node (holds_action mode a) 0 g.nodes))
 
--- ---- the node hint, which is left free: what holds of an answer
+-- ---- the node hint (document 02, request (v))
 
-unfoldable pub nodes_left : Graph → ℕ
-nodes_left g = mode_count + most_nodes - length g.nodes
+-- the nodes made by accepted calls since fresh: all but the roots, since a refused call leaves the graph, and only an open, which is
+-- fresh, takes nodes away
+unfoldable pub nodes_made : Graph → ℕ
+nodes_made g = length g.nodes - mode_count
 
--- node hint: a number at most the nodes left, and 0 only if none is left
-abbrev pub HintFits : Graph → ℕ → Type 0
-HintFits g h = (h ≤ nodes_left g) × (h ≡ 0 → nodes_left g ≡ 0)
+-- node hint: exactly 1,024 less the nodes made
+unfoldable pub hint : Graph → ℕ
+hint g = most_nodes - nodes_made g
 
 -- ---- everything above, to be opened by one name where a run is computed
 unfoldable pub open-Calls : Unit {0}
-unfolding fresh open_with keep map_call prefix_call bind bind_all key_call repeat_call reset_call mode_call settled pressed popped call history leaves arrive land turn_by graph_navigator does holds_action first_node find nodes_left
+unfolding fresh open_with keep map_call prefix_call bind bind_all key_call repeat_call reset_call mode_call settled pressed popped call history leaves arrive land turn_by graph_navigator does holds_action first_node find nodes_made hint
 open-Calls = tt
