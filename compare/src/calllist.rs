@@ -7,7 +7,7 @@ use crate::finds;
 use crate::graph::limits;
 use crate::hints;
 use crate::mapfile::bindings_of;
-use crate::met::{expect_named, met_named};
+use crate::met::{expect_all, met_named, met_named_if};
 use crate::play::{Both, Seen};
 use crate::writing::{bytes_of, hexadecimal, put_binding, put_tables};
 
@@ -159,7 +159,7 @@ const REFUSED_FAR: &str = "write: refused 10, with more than 65,536 bytes lent";
 
 /// What a report shows of writing even when it is never met.
 pub fn expect_writes() {
-    let all = [
+    expect_all(&[
         WRITTEN,
         WRITTEN_EXACTLY,
         WRITTEN_EMPTY,
@@ -169,27 +169,21 @@ pub fn expect_writes() {
         REFUSED,
         REFUSED_BY_ONE,
         REFUSED_FAR,
-    ];
-    all.iter().for_each(|words| expect_named(words.to_string()));
+    ]);
 }
 
 /// For the counts alone.
 fn note_write(length: usize, room: usize, kept: usize) {
-    let note = |test: bool, words: &str| {
-        if test {
-            met_named(words.into());
-        }
-    };
     let fits = length <= room;
-    note(fits, WRITTEN);
-    note(length == room, WRITTEN_EXACTLY);
-    note(fits && kept == 0, WRITTEN_EMPTY);
-    note(fits && kept == limits().kept, WRITTEN_FULL);
-    note(fits && length == 65_536, WRITTEN_EDGE);
-    note(fits && length > 65_536, WRITTEN_FAR);
-    note(!fits, REFUSED);
-    note(length == room + 1, REFUSED_BY_ONE);
-    note(!fits && room > 65_536, REFUSED_FAR);
+    met_named_if(fits, WRITTEN);
+    met_named_if(length == room, WRITTEN_EXACTLY);
+    met_named_if(fits && kept == 0, WRITTEN_EMPTY);
+    met_named_if(fits && kept == limits().kept, WRITTEN_FULL);
+    met_named_if(fits && length == 65_536, WRITTEN_EDGE);
+    met_named_if(fits && length > 65_536, WRITTEN_FAR);
+    met_named_if(!fits, REFUSED);
+    met_named_if(length == room + 1, REFUSED_BY_ONE);
+    met_named_if(!fits && room > 65_536, REFUSED_FAR);
 }
 
 /// What a list comes to.

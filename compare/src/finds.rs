@@ -2,7 +2,7 @@
 
 use crate::calls::is_mode;
 use crate::graph::{Graph, Node, NodeAction, NodeId, Outcome};
-use crate::met::{expect_named, met_named};
+use crate::met::{expect_all, met_named_if};
 
 fn has(node: &Node, mode: u16, action: u16) -> bool {
     matches!(&node.action, NodeAction::Step(s) if node.mode == mode && s.actions.contains(&action))
@@ -59,7 +59,7 @@ const ONLY_GIVEN: &str = "find: none, where a step of the mode gives action 0 wi
 
 /// What a report shows of find even when it is never met.
 pub fn expect() {
-    let all = [
+    expect_all(&[
         REFUSED,
         REFUSED_BY_ONE,
         FOUND,
@@ -74,21 +74,14 @@ pub fn expect() {
         NONE,
         ELSEWHERE,
         ONLY_GIVEN,
-    ];
-    all.iter().for_each(|words| expect_named(words.to_string()));
-}
-
-fn note_if(test: bool, words: &str) {
-    if test {
-        met_named(words.into());
-    }
+    ]);
 }
 
 fn note(graph: &Graph, found: Outcome<Option<NodeId>>, mode: u16, action: u16) {
     match found {
         Err(_) => {
-            note_if(true, REFUSED);
-            note_if(mode == 16, REFUSED_BY_ONE);
+            met_named_if(true, REFUSED);
+            met_named_if(mode == 16, REFUSED_BY_ONE);
         },
         Ok(Some(node)) => note_node(graph, node, action),
         Ok(None) => note_none(graph, mode, action),
@@ -99,15 +92,15 @@ fn note_node(graph: &Graph, node: NodeId, action: u16) {
     let found = graph.get_node(node);
     let NodeAction::Step(step) = &found.action else { unreachable!("only a step has an action") };
     let several = graph.nodes().iter().filter(|n| has(n, found.mode, action)).count() > 1;
-    note_if(true, FOUND);
-    note_if(found.mode == 15, IN_THE_LAST_MODE);
-    note_if(several, LOWEST);
-    note_if(node < 16, ROOT);
-    note_if(node < 16 && several, ROOT_FIRST);
-    note_if(step.flag, FLAGGED);
-    note_if(step.actions[0] != action, LATER_ACTION);
-    note_if(node == 16 + 1023, LAST_NODE);
-    note_if(node >= 16 && !graph.edges().iter().any(|e| e.2 == node), UNREACHED);
+    met_named_if(true, FOUND);
+    met_named_if(found.mode == 15, IN_THE_LAST_MODE);
+    met_named_if(several, LOWEST);
+    met_named_if(node < 16, ROOT);
+    met_named_if(node < 16 && several, ROOT_FIRST);
+    met_named_if(step.flag, FLAGGED);
+    met_named_if(step.actions[0] != action, LATER_ACTION);
+    met_named_if(node == 16 + 1023, LAST_NODE);
+    met_named_if(graph.unreached().contains(&node), UNREACHED);
 }
 
 fn note_none(graph: &Graph, mode: u16, action: u16) {
@@ -115,7 +108,7 @@ fn note_none(graph: &Graph, mode: u16, action: u16) {
         NodeAction::Step(s) => n.mode == mode && s.actions.is_empty() && s.next.is_some(),
         _ => false,
     };
-    note_if(true, NONE);
-    note_if(graph.nodes().iter().any(|n| has(n, n.mode, action)), ELSEWHERE);
-    note_if(action == 0 && graph.nodes().iter().any(only_gives), ONLY_GIVEN);
+    met_named_if(true, NONE);
+    met_named_if(graph.nodes().iter().any(|n| has(n, n.mode, action)), ELSEWHERE);
+    met_named_if(action == 0 && graph.nodes().iter().any(only_gives), ONLY_GIVEN);
 }

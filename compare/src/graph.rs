@@ -109,11 +109,11 @@ impl Graph {
         (self.nodes.len() - ROOTS, self.edge_count)
     }
 
-    /// For the counts alone: whether a node beside the roots has no edge to it any more.
-    pub fn has_unreached(&self) -> bool {
+    /// For the counts alone: the nodes beside the roots to which no edge leads any more.
+    pub fn unreached(&self) -> Vec<NodeId> {
         let mut reached = vec![false; self.nodes.len()];
         self.edges.values().flat_map(HashMap::values).for_each(|edge| reached[edge.to] = true);
-        reached[ROOTS..].contains(&false)
+        (ROOTS..self.nodes.len()).filter(|&node| !reached[node]).collect()
     }
 
     fn add_node(&mut self, mode: u16, action: NodeAction) -> Outcome<NodeId> {

@@ -2,7 +2,7 @@
 
 use crate::calls::{Answer, Call};
 use crate::graph::{limits, Graph};
-use crate::met::{expect_named, met_named};
+use crate::met::{expect_all, met_named, met_named_if};
 
 /// 1,024 less the nodes that accepted calls have made since the machine was fresh. These are the nodes of the model's graph
 /// beside the roots, of which none is ever taken away: a refused call leaves the copy of the model that was made before it,
@@ -72,7 +72,7 @@ const OPEN_REFUSED: &str = "hint: after a refused open of a machine that had nod
 
 /// What a report shows of the hint even when it is never met.
 pub fn expect() {
-    let all = [
+    expect_all(&[
         FRESH,
         SOME,
         ONE,
@@ -88,35 +88,28 @@ pub fn expect() {
         OTHER,
         OPENED,
         OPEN_REFUSED,
-    ];
-    all.iter().for_each(|words| expect_named(words.to_string()));
-}
-
-fn note_if(test: bool, words: &str) {
-    if test {
-        met_named(words.into());
-    }
+    ]);
 }
 
 fn note(graph: &Graph, last: Last) {
     let left = hint(graph);
-    note_if(left == limits().nodes, FRESH);
-    note_if(left > 1 && left < limits().nodes, SOME);
-    note_if(left == 1, ONE);
-    note_if(left == 0, NONE);
-    note_if(graph.has_unreached(), UNREACHED);
+    met_named_if(left == limits().nodes, FRESH);
+    met_named_if(left > 1 && left < limits().nodes, SOME);
+    met_named_if(left == 1, ONE);
+    met_named_if(left == 0, NONE);
+    met_named_if(!graph.unreached().is_empty(), UNREACHED);
     match last {
         Last::Open(accepted) => met_named(if accepted { OPENED } else { OPEN_REFUSED }.into()),
         Last::Binding(0, made) => met_named(if made == 0 { MADE_NONE } else { MADE }.into()),
         Last::Binding(refusal, made) => note_refused(refusal, made, left),
-        Last::Other => note_if(left < limits().nodes, OTHER),
+        Last::Other => met_named_if(left < limits().nodes, OTHER),
     }
 }
 
 fn note_refused(refusal: u16, made: usize, left: usize) {
-    note_if(refusal == 2 && made > 0, NODES_OUT);
-    note_if(refusal == 3 && made > 0, EDGES_OUT);
-    note_if(refusal == 11 && made > 0, KEPT_OUT);
-    note_if(refusal == 4, ELSEWHERE);
-    note_if(left == 0, NONE_REFUSED);
+    met_named_if(refusal == 2 && made > 0, NODES_OUT);
+    met_named_if(refusal == 3 && made > 0, EDGES_OUT);
+    met_named_if(refusal == 11 && made > 0, KEPT_OUT);
+    met_named_if(refusal == 4, ELSEWHERE);
+    met_named_if(left == 0, NONE_REFUSED);
 }

@@ -12,7 +12,7 @@ use crate::calls::{Call, Tables};
 use crate::graph::limits;
 use crate::machine::Machine;
 use crate::mapfile::{binding_refusal, bindings_of, tables_refusal};
-use crate::met::{expect_named, met_named};
+use crate::met::{expect_all, met_named};
 use crate::writing::{file_of, hexadecimal};
 
 /// A count over it is refused.
@@ -27,7 +27,7 @@ const AGAIN: &str = "C: a written file opens a machine that has the same hint an
 const ONE_MORE: &str = "C: a file of 1,024 bindings and one more, refused 11";
 
 pub fn expect_calls() {
-    [CALLS, KEPT, DAMAGED, LARGE, PASSED, AGAIN, ONE_MORE].iter().for_each(|words| expect_named(words.to_string()));
+    expect_all(&[CALLS, KEPT, DAMAGED, LARGE, PASSED, AGAIN, ONE_MORE]);
 }
 
 /// How the machine differs from the lines, if it does.

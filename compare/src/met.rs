@@ -184,11 +184,21 @@ pub fn met_named(words: String) {
     counting(|c| *c.named.entry(words).or_default() += 1);
 }
 
+pub fn met_named_if(test: bool, words: &str) {
+    if test {
+        met_named(words.into());
+    }
+}
+
 /// A name that is shown even when it is never met.
 pub fn expect_named(words: String) {
     counting(|c| {
         c.named.entry(words).or_default();
     });
+}
+
+pub fn expect_all(names: &[&str]) {
+    names.iter().for_each(|words| expect_named(words.to_string()));
 }
 
 pub fn stacked(keys: usize) {

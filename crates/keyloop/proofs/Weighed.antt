@@ -9,7 +9,7 @@ use lib.ListN.{length}
 use Rattle.rules.specs.Basics.{accept}
 use Rattle.rules.specs.Tables.{Tables}
 use Rattle.rules.specs.KeyLoop.{Shared, InputResult, Turn, Navigator, State, round}
-use Rattle.rules.proofs.Weights.{weight_by, weight_most, each_key}
+use Rattle.rules.proofs.Weights.{weight_by, weight_most, each_any}
 use Rattle.rules.proofs.Results.{Always, accepts, value, always_bind, hook_keeps}
 use Rattle.rules.proofs.Rounds.{Bounded, round_bounded}
 use Rattle.rules.proofs.Reached.{any_number}
@@ -23,7 +23,7 @@ abbrev pub weight : List ℕ → ℕ
 weight = weight_by splits
 
 pub weight_twice : (xs : List ℕ) → weight xs ≤ 2 * length xs
-weight_twice xs = weight_most splits xs (each_key (λ k. omega arith) xs)
+weight_twice xs = weight_most splits xs (each_any (λ k. omega arith) xs)
 
 -- a turn, with the event hook, leaves the trail as it is
 pub turned_trail : (t : Turn ℕ) (k : ℕ) (c : Shared) (x : InputResult) (m : State ℕ) → accept (x, m) ≡ turned t k c → m.shared.trail ≡ c.trail

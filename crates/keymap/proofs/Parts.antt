@@ -1,5 +1,6 @@
 -- What `keymap.h` takes apart is what was put together: its macros give the rounds and the refusal, the three numbers of a
--- pair, the node that was found, and the nodes that are left. A refusal is below 32, and an action, a count and a mark are below 2^16.
+-- pair, the node that was found, and the nodes that are left. A refusal is below 32, and an action, a count and a mark are
+-- below 2^16.
 use native.Mathlib.Omega.{arith}
 use Prim.Native.Nat.{ℕ, ◌+◌, ◌-◌, ◌*◌, ◌/◌, ◌%◌, ◌<◌}
 use mathlib.Core.Path.{◌≡◌, ap, ◌∙◌}

@@ -13,12 +13,12 @@ use mathlib.Core.List.{List, [], ◌∷◌, ◌++◌, map}
 use lib.Dec.{T, eqb, leb, ltb, ltb→lt}
 use lib.ListN.{length, get_or, replicate}
 use Rattle.rules.specs.Basics.{Result, accept, refuse, every, some_of}
-use Rattle.rules.specs.Values.{largest, most_trail, Any, Part, Step, Binding, Context, Pair}
+use Rattle.rules.specs.Values.{largest, most_trail, Any, Part, Step, Binding, Maps, Prefixes, Context, Pair}
 use Rattle.rules.specs.Tables.{Tables}
 use Rattle.rules.specs.Graph.{Edge, Graph}
 use Rattle.rules.specs.KeyLoop.{Shared, fresh_shared, with_queue, Navigator, State, at, Input, round}
 use Rattle.rules.specs.Calls.{Kind, Machine, with_state, navigate, graph_kind, Call, Open, Map, Prefix, Press, Pop, Repeats, Reset, Popped, Nothing}
-use Rattle.rules.specs.Calls.{fresh, open_with, map_call, prefix_call, key_call, repeat_call, reset_call, settled, pressed, popped, call, history, leaves}
+use Rattle.rules.specs.Calls.{fresh, open_with, map_call, prefix_call, key_call, repeat_call, reset_call, bind, settled, pressed, popped, call, history, leaves}
 use Rattle.rules.specs.MapFile.{read_map}
 use Rattle.rules.specs.Run.{pair_bytes, emptied, run, code_of}
 use Rattle.rules.specs.Writing.{write_map, written}
@@ -30,7 +30,7 @@ use Rattle.rules.proofs.Grown.{any_grows, single_place}
 use Rattle.rules.proofs.Weights.{Each, length-weight}
 use Rattle.rules.proofs.Rounds.{Bounded, splits}
 use Rattle.rules.proofs.Reached.{leaves_single, fresh_single, Is16, KeyIs16, begins_bounded, round_keeps, leaves_few, leaves_short}
-use Rattle.rules.proofs.Refusals.{open_always, key_always, repeat_always, reset_always, map_always, prefix_always, file_always, run_always}
+use Rattle.rules.proofs.Refusals.{open_always, key_always, repeat_always, reset_always, bind_always, file_always, run_always}
 
 -- ---- of one start and one event a graph has at most one edge
 
@@ -151,13 +151,13 @@ open_refuses 𝓚 t = among (1 ∷ []) (open_always 𝓚 tt t)
 
 -- map: 1, 2, 3, 4, 11
 pub map_refuses : (mode : ℕ) (path : List Part) (st : Step) (s : Machine graph_kind) → RefusedAmong (1 ∷ 2 ∷ 3 ∷ 4 ∷ 11 ∷ []) (map_call graph_kind mode path st s)
-unfolding some_of
-map_refuses mode path st s = among (1 ∷ 2 ∷ 3 ∷ 4 ∷ 11 ∷ []) (map_always tt tt tt tt tt (λ g. Unit {0}) any_grows mode path st s tt)
+unfolding some_of bind
+map_refuses mode path st s = among (1 ∷ 2 ∷ 3 ∷ 4 ∷ 11 ∷ []) (bind_always tt tt tt tt tt (λ g. Unit {0}) any_grows (Maps mode path st) s tt)
 
 -- prefix: the same
 pub prefix_refuses : (mode : ℕ) (path : List Part) (os : Option Step) (s : Machine graph_kind) → RefusedAmong (1 ∷ 2 ∷ 3 ∷ 4 ∷ 11 ∷ []) (prefix_call graph_kind mode path os s)
-unfolding some_of
-prefix_refuses mode path os s = among (1 ∷ 2 ∷ 3 ∷ 4 ∷ 11 ∷ []) (prefix_always tt tt tt tt tt (λ g. Unit {0}) any_grows mode path os s tt)
+unfolding some_of bind
+prefix_refuses mode path os s = among (1 ∷ 2 ∷ 3 ∷ 4 ∷ 11 ∷ []) (bind_always tt tt tt tt tt (λ g. Unit {0}) any_grows (Prefixes mode path os) s tt)
 
 -- a key, of any machine: 8, 12, 6, 5, 7
 pub key_refuses : (𝓚 : Kind) (i : Input) (s : Machine 𝓚) → RefusedAmong (8 ∷ 12 ∷ 6 ∷ 5 ∷ 7 ∷ []) (key_call 𝓚 i s).result

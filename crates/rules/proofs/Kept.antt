@@ -1,21 +1,22 @@
 -- A machine's bindings are what its kept calls make of a fresh one with its tables. So it is freshly, and each call keeps it so: a
 -- binding call that is accepted does to the bindings what it would do from any state, and is kept behind the others; open begins
--- anew; every other call leaves tables, bindings and kept calls as they are (Reached).
+-- anew; every other call leaves tables, bindings and kept calls as they are (`by_call` of Reached).
 use Prim.Native.Nat.{ℕ}
 use mathlib.Core.Path.{◌≡◌, refl, sym, ap, ap₂, ◌∙◌, subst}
 use mathlib.Core.Bool.{Bool, true, false}
-use mathlib.Core.List.{List, [], ◌∷◌, ◌++◌, append-nil, append_assoc}
+use mathlib.Core.List.{List, [], ◌∷◌, ◌++◌, append-nil, append_assoc, map}
 use lib.Dec.{T, ltb}
 use lib.ListN.{length}
 use Rattle.rules.specs.Basics.{Result, accept, refuse, ◌>>=◌, unless}
 use Rattle.rules.specs.Values.{most_kept, Binding, Maps, Prefixes, map_valid, prefix_valid, binding_valid}
 use Rattle.rules.specs.Tables.{Tables, tables_valid}
 use Rattle.rules.specs.KeyLoop.{fresh_shared, State}
-use Rattle.rules.specs.Calls.{Kind, Machine, with_state, fresh, open_with, keep, map_call, prefix_call, bind, bind_all, settled, call, leaves, Call, Open, Map, Prefix, Press, Pop, Repeats, Reset}
-use Rattle.rules.proofs.Tests.{is_T, T-is}
+use Rattle.rules.specs.Calls.{Kind, Machine, with_state, fresh, keep, map_call, prefix_call, bind, bind_all, settled, call, leaves, Call, Map, Prefix}
+use Rattle.rules.proofs.Tests.{is_T}
 use Rattle.rules.proofs.Numbers.{never}
-use Rattle.rules.proofs.Refusals.{SameMap, repeat_always, reset_always}
-use Rattle.rules.proofs.Reached.{settled_stays, key_map, popped_stays}
+use Rattle.rules.proofs.Results.{always_more}
+use Rattle.rules.proofs.Refusals.{SameMap, open_always}
+use Rattle.rules.proofs.Reached.{settled_keeps, always_is, by_call, leaves_keep_all}
 
 -- ---- an accepted binding call
 
@@ -107,35 +108,35 @@ module _ (𝓚 : Kind) where
             ∙ b.again f.state ∙ ap (λ (m : State 𝓚.Place). accept (with_state 𝓚 s₁ (fresh 𝓚 m.shared.tables).state)) (sym b.state);
       }
 
-  pub bind_all_replays : (xs : List Binding) (s s₁ : Machine 𝓚) → bind_all 𝓚 xs s ≡ accept s₁ → Replays s → Replays s₁
-  unfolding bind_all
-  bind_all_replays [] s s₁ e h = let z : s ≡ s₁ = cc in subst Replays z h
-  bind_all_replays (x ∷ xs) s s₁ e h = let p = passed (bind 𝓚 x s) (bind_all 𝓚 xs) s₁ e in bind_all_replays xs p.0 s₁ p.2 (bind_replays x s p.0 p.1 h)
-
   -- what leaves the map as it was
   same_replays : (s s₁ : Machine 𝓚) → Replays s → SameMap s s₁ → Replays s₁
   same_replays s s₁ h e = record { valid = rw e.tables h.valid; made = rw (e.tables, e.kept, e.bindings) h.made }
 
-  settled_replays : (s : Machine 𝓚) → Replays s → (r : Result (Machine 𝓚)) → ((s₁ : Machine 𝓚) → r ≡ accept s₁ → Replays s₁) → Replays (settled 𝓚 s r).0
-  unfolding settled
-  settled_replays s h (accept s₁) k = k s₁ refl
-  settled_replays s h (refuse n) k = h
+  call_replays : (s : Machine 𝓚) (c : Call) → Replays s → Replays (call 𝓚 s c).0
+  call_replays s c h =
+      by_call 𝓚 (λ o r. Replays r.0) s
+      (λ t. settled_keeps 𝓚 Replays s h (always_more (λ s₁ e. rw e.0 (fresh_replays t e.1)) (open_always 𝓚 tt t)))
+      (λ x. settled_keeps 𝓚 Replays s h (always_more (λ s₁ e. bind_replays x s s₁ e h) (always_is (bind 𝓚 x s))))
+      (λ s₁ x e. same_replays s s₁ h e)
+      c
 
-  call_replays : (s : Machine 𝓚) → Replays s → (c : Call) → Replays (call 𝓚 s c).0
-  unfolding call bind open_with settled
-  call_replays s h (Open t) = go (tables_valid t) refl
-    where
-      go : (v : Bool) → tables_valid t ≡ v → Replays (settled 𝓚 s (unless v 1 (accept (fresh 𝓚 t)))).0
-      go true e = fresh_replays t (T-is e)
-      go false e = h
-  call_replays s h (Map mode path st) = settled_replays s h (map_call 𝓚 mode path st s) (λ s₁ e. bind_replays (Maps mode path st) s s₁ e h)
-  call_replays s h (Prefix mode path st) = settled_replays s h (prefix_call 𝓚 mode path st s) (λ s₁ e. bind_replays (Prefixes mode path st) s s₁ e h)
-  call_replays s h (Press i) = same_replays s _ h (key_map 𝓚 i s)
-  call_replays s h Pop = same_replays s _ h (popped_stays 𝓚 s s.state.shared.queue).0
-  call_replays s h (Repeats q over) = same_replays s _ h (settled_stays 𝓚 s (repeat_always 𝓚 tt tt q over s)).0
-  call_replays s h Reset = same_replays s _ h (settled_stays 𝓚 s (reset_always 𝓚 tt tt s)).0
+  pub leaves_replays : (s : Machine 𝓚) (cs : List Call) → Replays s → Replays (leaves 𝓚 s cs)
+  leaves_replays = leaves_keep_all 𝓚 Replays call_replays
 
-  pub leaves_replays : (cs : List Call) (s : Machine 𝓚) → Replays s → Replays (leaves 𝓚 s cs)
-  unfolding leaves
-  leaves_replays [] s h = h
-  leaves_replays (c ∷ cs) s h = leaves_replays cs (call 𝓚 s c).0 (call_replays s h c)
+-- ---- bindings are calls
+
+-- the call that binds so
+abbrev pub call_by : Binding → Call
+call_by (Maps mode path st) = Map mode path st
+call_by (Prefixes mode path st) = Prefix mode path st
+
+pub bound_by_calls : (𝓚 : Kind) (xs : List Binding) (s s₁ : Machine 𝓚) → bind_all 𝓚 xs s ≡ accept s₁ → leaves 𝓚 s (map call_by xs) ≡ s₁
+unfolding bind_all leaves bind call settled
+bound_by_calls 𝓚 [] s s₁ e = cc
+bound_by_calls 𝓚 (x ∷ xs) s s₁ e =
+    let p = passed (bind 𝓚 x s) (bind_all 𝓚 xs) s₁ e in
+    ap (λ u. leaves 𝓚 u (map call_by xs)) (one x p.0 p.1) ∙ bound_by_calls 𝓚 xs p.0 s₁ p.2
+  where
+    one : (x : Binding) (u : Machine 𝓚) → bind 𝓚 x s ≡ accept u → (call 𝓚 s (call_by x)).0 ≡ u
+    one (Maps mode path st) u e = rw e refl
+    one (Prefixes mode path st) u e = rw e refl

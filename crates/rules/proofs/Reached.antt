@@ -1,24 +1,24 @@
 -- What holds of every machine that calls lead to, because each call keeps it: its graph has one edge at most of a start and an
--- event, it keeps at most 1,024 binding calls, and its trail is short.
+-- event, it keeps at most 1,024 binding calls, and its trail is short. A call is an open, a binding, or one that leaves the map
+-- (`by_call`), so what holds of a map is shown for these three.
 use Prim.Native.Nat.{ℕ, ◌≤◌}
 use native.Mathlib.Omega.{arith}
 use mathlib.Core.Path.{◌≡◌, refl}
-use mathlib.Core.Bool.{Bool, true}
-use mathlib.Core.List.{List, [], ◌∷◌}
-use lib.Dec.{ltb, ltb→lt}
-use lib.ListN.{length, length-append}
-use Rattle.rules.specs.Basics.{Result, accept, refuse, ◌>>=◌, unless}
-use Rattle.rules.specs.Values.{largest, most_kept, most_trail, rest_of, map_valid, prefix_valid, Binding, Maps, Prefixes, Pair}
+use mathlib.Core.Bool.{Bool, true, false}
+use mathlib.Core.List.{List, [], ◌∷◌, ◌++◌}
+use lib.ListN.{length}
+use Rattle.rules.specs.Basics.{Result, accept, refuse}
+use Rattle.rules.specs.Values.{largest, most_kept, most_trail, rest_of, Binding, Maps, Prefixes, Pair}
 use Rattle.rules.specs.Tables.{Tables}
 use Rattle.rules.specs.Graph.{fresh_graph}
 use Rattle.rules.specs.KeyLoop.{fresh_shared, Navigator, State, Input, round, input_key}
-use Rattle.rules.specs.Calls.{Kind, Machine, with_state, navigate, graph_kind, Call, Open, Map, Prefix, Press, Pop, Repeats, Reset}
-use Rattle.rules.specs.Calls.{fresh, keep, map_call, prefix_call, key_call, settled, pressed, popped, call, leaves}
-use Rattle.rules.proofs.Results.{Always, accepts, refuses, Whatever, always_bind, always_more, unless_so}
+use Rattle.rules.specs.Calls.{Kind, Machine, with_state, navigate, graph_kind, Call, Open, Map, Prefix, Press, Pop, Repeats, Reset, Answer}
+use Rattle.rules.specs.Calls.{fresh, open_with, map_call, prefix_call, bind, key_call, settled, pressed, popped, call, leaves}
+use Rattle.rules.proofs.Results.{Always, accepts, refuses, always_bind, always_more}
 use Rattle.rules.proofs.Grown.{OneEdge, one_edge_grows}
-use Rattle.rules.proofs.Weights.{Each, weight_by}
+use Rattle.rules.proofs.Weights.{Each, each_any, weight_by}
 use Rattle.rules.proofs.Rounds.{Bounded, splits, halves, weight_16, round_bounded, loop_bounded}
-use Rattle.rules.proofs.Refusals.{SameMap, Stays, open_always, keep_always, key_always, repeat_always, reset_always, map_always, prefix_always}
+use Rattle.rules.proofs.Refusals.{SameMap, Stays, open_always, keep_always, key_always, repeat_always, reset_always, bind_always}
 
 -- whatever the number is
 abbrev pub any_number : ℕ → Bool
@@ -30,14 +30,8 @@ module _ (𝓚 : Kind) where
   settled_keeps X s h (accepts k) = k
   settled_keeps X s h (refuses n o) = h
 
-  pub settled_stays : (s : Machine 𝓚) {r : Result (Machine 𝓚)} → Always any_number (Stays s) r → Stays s (settled 𝓚 s r).0
+  settled_stays : (s : Machine 𝓚) {r : Result (Machine 𝓚)} → Always any_number (Stays s) r → Stays s (settled 𝓚 s r).0
   settled_stays s h = settled_keeps (Stays s) s (record { tables = refl; bindings = refl; kept = refl }, refl) h
-
-  -- a map or prefix call leaves the state as it was
-  bound_state : (x : Binding) (s : Machine 𝓚) (r : Result 𝓚.Bindings) → (settled 𝓚 s (r >>= keep 𝓚 x s)).0.state ≡ s.state
-  unfolding settled
-  bound_state x s (accept b) = settled_keeps (λ s₁. s₁.state ≡ s.state) s refl (always_more (λ s₁ h. h.1) (keep_always 𝓚 tt x s b))
-  bound_state x s (refuse n) = refl
 
   pressed_keeps : (X : Machine 𝓚 → Type 0) (s : Machine 𝓚) (n : ℕ) → X s → {Y : State 𝓚.Place → Type 0} {r : Result (State 𝓚.Place)}
       → ((m : State 𝓚.Place) → Y m → X (with_state 𝓚 s m)) → Always any_number Y r → X (pressed 𝓚 s n r).0
@@ -46,70 +40,114 @@ module _ (𝓚 : Kind) where
   pressed_keeps X s n h k (refuses x o) = h
 
   -- a key leaves the map as it was
-  pub key_map : (i : Input) (s : Machine 𝓚) → let r = key_call 𝓚 i s in SameMap s (pressed 𝓚 s r.rounds r.result).0
+  key_map : (i : Input) (s : Machine 𝓚) → let r = key_call 𝓚 i s in SameMap s (pressed 𝓚 s r.rounds r.result).0
   key_map i s =
       pressed_keeps (SameMap s) s _ (record { tables = refl; bindings = refl; kept = refl }) (λ m e. record { tables = e; bindings = refl; kept = refl })
       (key_always 𝓚 tt tt tt tt tt i s)
 
-  pub popped_stays : (s : Machine 𝓚) (ps : List Pair) → Stays s (popped 𝓚 s ps).0
+  popped_stays : (s : Machine 𝓚) (ps : List Pair) → Stays s (popped 𝓚 s ps).0
   unfolding popped
   popped_stays s [] = (record { tables = refl; bindings = refl; kept = refl }, refl)
   popped_stays s (p ∷ ps) = (record { tables = refl; bindings = refl; kept = refl }, refl)
 
+-- ---- what every call keeps
+
+-- does the call begin anew, if it is accepted?
+abbrev pub opens : Call → Bool
+opens (Open t) = true
+opens c = false
+
+module _ (𝓚 : Kind) where
+  -- X holds of what a call leaves and answers if it does of what an open, a binding and a key come to, and of all that leaves map
+  -- and trail
+  by_each : (X : Call → Machine 𝓚 × Answer → Type 0) (s : Machine 𝓚)
+      → ((t : Tables) → X (Open t) (settled 𝓚 s (open_with 𝓚 t)))
+      → ((c : Call) (x : Binding) → opens c ≡ false → X c (settled 𝓚 s (bind 𝓚 x s)))
+      → ((i : Input) → let r = key_call 𝓚 i s in X (Press i) (pressed 𝓚 s r.rounds r.result))
+      → ((c : Call) (s₁ : Machine 𝓚) (x : Answer) → opens c ≡ false → Stays s s₁ → X c (s₁, x))
+      → (c : Call) → X c (call 𝓚 s c)
+  unfolding call bind
+  by_each X s o b p k (Open t) = o t
+  by_each X s o b p k (Map mode path st) = b (Map mode path st) (Maps mode path st) refl
+  by_each X s o b p k (Prefix mode path os) = b (Prefix mode path os) (Prefixes mode path os) refl
+  by_each X s o b p k (Press i) = p i
+  by_each X s o b p k Pop = k Pop _ _ refl (popped_stays 𝓚 s s.state.shared.queue)
+  by_each X s o b p k (Repeats q over) = k (Repeats q over) _ _ refl (settled_stays 𝓚 s (repeat_always 𝓚 tt tt q over s))
+  by_each X s o b p k Reset = k Reset _ _ refl (settled_stays 𝓚 s (reset_always 𝓚 tt tt s))
+
+  -- the same of a key as of all else that leaves the map; X is told whether the call opens, and of the call no more
+  pub by_call : (X : Bool → Machine 𝓚 × Answer → Type 0) (s : Machine 𝓚)
+      → ((t : Tables) → X true (settled 𝓚 s (open_with 𝓚 t)))
+      → ((x : Binding) → X false (settled 𝓚 s (bind 𝓚 x s)))
+      → ((s₁ : Machine 𝓚) (x : Answer) → SameMap s s₁ → X false (s₁, x))
+      → (c : Call) → X (opens c) (call 𝓚 s c)
+  by_call X s o b k =
+      by_each (λ c r. X (opens c) r) s o (λ c x n. rw n (b x)) (λ i. k _ _ (key_map 𝓚 i s)) (λ c s₁ x n e. rw n (k s₁ x e.0))
+
+  -- what each call of which C holds keeps, a list of such calls keeps
+  leaves_keep : (X : Machine 𝓚 → Type 0) (C : Call → Type 0) → ((s : Machine 𝓚) (c : Call) → C c → X s → X (call 𝓚 s c).0)
+      → (s : Machine 𝓚) (cs : List Call) → Each C cs → X s → X (leaves 𝓚 s cs)
+  unfolding leaves
+  leaves_keep X C keeps s [] e h = h
+  leaves_keep X C keeps s (c ∷ cs) e h = leaves_keep X C keeps (call 𝓚 s c).0 cs e.1 (keeps s c e.0 h)
+
+  pub leaves_append : (s : Machine 𝓚) (cs ds : List Call) → leaves 𝓚 s (cs ++ ds) ≡ leaves 𝓚 (leaves 𝓚 s cs) ds
+  unfolding leaves
+  leaves_append s [] ds = refl
+  leaves_append s (c ∷ cs) ds = leaves_append (call 𝓚 s c).0 cs ds
+
+  pub leaves_keep_all : (X : Machine 𝓚 → Type 0) → ((s : Machine 𝓚) (c : Call) → X s → X (call 𝓚 s c).0) → (s : Machine 𝓚) (cs : List Call) → X s → X (leaves 𝓚 s cs)
+  leaves_keep_all X keeps s cs = leaves_keep X (λ c. Unit {0}) (λ s c u. keeps s c) s cs (each_any (λ c. tt) cs)
+
 -- ---- one edge of a start and an event
 
-call_single : (s : Machine graph_kind) (c : Call) → OneEdge s.bindings → OneEdge (call graph_kind s c).0.bindings
-unfolding call fresh fresh_graph
-call_single s (Open t) h =
-    let k : OneEdge (fresh graph_kind t).bindings = tt in
-    settled_keeps graph_kind (λ x. OneEdge x.bindings) s h (always_more (λ x e. rw e k) (open_always graph_kind tt t))
-call_single s (Map mode path st) h = settled_keeps graph_kind (λ x. OneEdge x.bindings) s h (map_always tt tt tt tt tt OneEdge one_edge_grows mode path st s h)
-call_single s (Prefix mode path os) h = settled_keeps graph_kind (λ x. OneEdge x.bindings) s h (prefix_always tt tt tt tt tt OneEdge one_edge_grows mode path os s h)
-call_single s (Press i) h = rw (key_map graph_kind i s).bindings h
-call_single s Pop h = rw (popped_stays graph_kind s s.state.shared.queue).0.bindings h
-call_single s (Repeats q over) h = rw (settled_stays graph_kind s (repeat_always graph_kind tt tt q over s)).0.bindings h
-call_single s Reset h = rw (settled_stays graph_kind s (reset_always graph_kind tt tt s)).0.bindings h
+abbrev OneEdgeIn : Machine graph_kind → Type 0
+OneEdgeIn s = OneEdge s.bindings
 
-pub leaves_single : (s : Machine graph_kind) (cs : List Call) → OneEdge s.bindings → OneEdge (leaves graph_kind s cs).bindings
-unfolding leaves
-leaves_single s [] h = h
-leaves_single s (c ∷ cs) h = leaves_single (call graph_kind s c).0 cs (call_single s c h)
+call_single : (s : Machine graph_kind) (c : Call) → OneEdgeIn s → OneEdgeIn (call graph_kind s c).0
+unfolding fresh fresh_graph
+call_single s c h =
+    by_call graph_kind (λ o r. OneEdgeIn r.0) s
+    (λ t. let k : OneEdgeIn (fresh graph_kind t) = tt in settled_keeps graph_kind OneEdgeIn s h (always_more (λ x e. rw e.0 k) (open_always graph_kind tt t)))
+    (λ x. settled_keeps graph_kind OneEdgeIn s h (bind_always tt tt tt tt tt OneEdge one_edge_grows x s h))
+    (λ s₁ x e. rw e.bindings h)
+    c
 
-pub fresh_single : (t : Tables) → OneEdge (fresh graph_kind t).bindings
+pub leaves_single : (s : Machine graph_kind) (cs : List Call) → OneEdgeIn s → OneEdgeIn (leaves graph_kind s cs)
+leaves_single = leaves_keep_all graph_kind OneEdgeIn call_single
+
+pub fresh_single : (t : Tables) → OneEdgeIn (fresh graph_kind t)
 unfolding fresh fresh_graph
 fresh_single t = tt
 
 -- ---- at most 1,024 kept calls
 
--- of a result of which nothing is known
-any_result : {A : Type 0} (r : Result A) → Always any_number Whatever r
-any_result (accept a) = accepts tt
-any_result (refuse n) = refuses n tt
+-- a result is accepted with its value, if at all
+pub always_is : {A : Type 0} (r : Result A) → Always any_number (λ a. r ≡ accept a) r
+always_is (accept a) = accepts refl
+always_is (refuse n) = refuses n tt
 
 module _ (𝓚 : Kind) where
   abbrev FewKept : Machine 𝓚 → Type 0
   FewKept s = length s.kept ≤ most_kept
 
-  keep_few : (x : Binding) (s : Machine 𝓚) (r : Result 𝓚.Bindings) → Always any_number FewKept (r >>= keep 𝓚 x s)
-  unfolding keep
-  keep_few x s r =
-      always_bind (any_result r)
-      (λ b _. unless_so (ltb (length s.kept) most_kept) 11 tt (λ so. accepts (omega (arith, length-append s.kept (x ∷ []), ltb→lt (length s.kept) most_kept so))))
+  -- a map or prefix call leaves the state, and keeps at most so many
+  bind_few : (x : Binding) (s : Machine 𝓚) → Always any_number (λ s₁. (s₁.state ≡ s.state) × FewKept s₁) (bind 𝓚 x s)
+  unfolding bind map_call prefix_call
+  bind_few (Maps mode path st) s = always_bind (always_is _) (λ b _. always_more (λ s₁ h. h.1) (keep_always 𝓚 tt (Maps mode path st) s b))
+  bind_few (Prefixes mode path os) s = always_bind (always_is _) (λ b _. always_more (λ s₁ h. h.1) (keep_always 𝓚 tt (Prefixes mode path os) s b))
 
   call_few : (s : Machine 𝓚) (c : Call) → FewKept s → FewKept (call 𝓚 s c).0
-  unfolding call fresh map_call prefix_call
-  call_few s (Open t) h = settled_keeps 𝓚 FewKept s h (always_more (λ x e. rw e (omega arith)) (open_always 𝓚 tt t))
-  call_few s (Map mode path st) h = settled_keeps 𝓚 FewKept s h (keep_few (Maps mode path st) s (unless (map_valid mode path st) 1 (𝓚.map_in mode path st s.bindings)))
-  call_few s (Prefix mode path os) h = settled_keeps 𝓚 FewKept s h (keep_few (Prefixes mode path os) s (unless (prefix_valid mode path os) 1 (𝓚.prefix_in mode path os s.bindings)))
-  call_few s (Press i) h = rw (key_map 𝓚 i s).kept h
-  call_few s Pop h = rw (popped_stays 𝓚 s s.state.shared.queue).0.kept h
-  call_few s (Repeats q over) h = rw (settled_stays 𝓚 s (repeat_always 𝓚 tt tt q over s)).0.kept h
-  call_few s Reset h = rw (settled_stays 𝓚 s (reset_always 𝓚 tt tt s)).0.kept h
+  unfolding fresh
+  call_few s c h =
+      by_call 𝓚 (λ o r. FewKept r.0) s
+      (λ t. settled_keeps 𝓚 FewKept s h (always_more (λ x e. rw e.0 (omega arith)) (open_always 𝓚 tt t)))
+      (λ x. settled_keeps 𝓚 FewKept s h (always_more (λ s₁ e. e.1) (bind_few x s)))
+      (λ s₁ x e. rw e.kept h)
+      c
 
   pub leaves_few : (s : Machine 𝓚) (cs : List Call) → FewKept s → FewKept (leaves 𝓚 s cs)
-  unfolding leaves
-  leaves_few s [] h = h
-  leaves_few s (c ∷ cs) h = leaves_few (call 𝓚 s c).0 cs (call_few s c h)
+  leaves_few = leaves_keep_all 𝓚 FewKept call_few
 
 -- ---- a short trail
 
@@ -146,20 +184,19 @@ pub round_keeps : {P : Type 0} (nav : Navigator P) (t : Tables) (k : ℕ) (ks : 
 round_keeps nav t k = round_bounded nav tt tt tt tt splits t 130 most_trail (omega arith) Is16 (omega arith) rest_16 k (halves k)
 
 module _ (𝓚 : Kind) where
-  call_short : (s : Machine 𝓚) (c : Call) → KeyIs16 c → Short s.state.shared.trail → Short (call 𝓚 s c).0.state.shared.trail
-  unfolding call fresh fresh_shared map_call prefix_call key_call input_key
-  call_short s (Open t) k h =
-      settled_keeps 𝓚 (λ x. Short x.state.shared.trail) s h (always_more (λ x e. rw e (omega arith, tt)) (open_always 𝓚 tt t))
-  call_short s (Map mode path st) k h = rw (bound_state 𝓚 (Maps mode path st) s (unless (map_valid mode path st) 1 (𝓚.map_in mode path st s.bindings))) h
-  call_short s (Prefix mode path os) k h = rw (bound_state 𝓚 (Prefixes mode path os) s (unless (prefix_valid mode path os) 1 (𝓚.prefix_in mode path os s.bindings))) h
-  call_short s (Press i) k h =
-      pressed_keeps 𝓚 (λ x. Short x.state.shared.trail) s _ h (λ m b. (b.trails, b.waits))
-      (loop_bounded (navigate 𝓚 s) tt tt tt tt splits s.state.shared.tables 130 most_trail (omega arith) Is16 (omega arith) rest_16 tt halves i.budget 0 (i.key ∷ []) s.state (begins_bounded i.key s.state k h))
-  call_short s Pop k h = rw (popped_stays 𝓚 s s.state.shared.queue).1 h
-  call_short s (Repeats q over) k h = rw (settled_stays 𝓚 s (repeat_always 𝓚 tt tt q over s)).1 h
-  call_short s Reset k h = rw (settled_stays 𝓚 s (reset_always 𝓚 tt tt s)).1 h
+  abbrev ShortTrail : Machine 𝓚 → Type 0
+  ShortTrail s = Short s.state.shared.trail
+
+  call_short : (s : Machine 𝓚) (c : Call) → KeyIs16 c → ShortTrail s → ShortTrail (call 𝓚 s c).0
+  unfolding fresh fresh_shared key_call input_key
+  call_short s c k h =
+      by_each 𝓚 (λ c r. KeyIs16 c → ShortTrail r.0) s
+      (λ t _. settled_keeps 𝓚 ShortTrail s h (always_more (λ x e. rw e.0 (omega arith, tt)) (open_always 𝓚 tt t)))
+      (λ c x n _. settled_keeps 𝓚 ShortTrail s h (always_more (λ s₁ e. rw e.0 h) (bind_few 𝓚 x s)))
+      (λ i k₁. pressed_keeps 𝓚 ShortTrail s _ h (λ m b. (b.trails, b.waits))
+      (loop_bounded (navigate 𝓚 s) tt tt tt tt splits s.state.shared.tables 130 most_trail (omega arith) Is16 (omega arith) rest_16 tt halves i.budget 0 (i.key ∷ []) s.state (begins_bounded i.key s.state k₁ h)))
+      (λ c s₁ x n e _. rw e.1 h)
+      c k
 
   pub leaves_short : (s : Machine 𝓚) (cs : List Call) → Each KeyIs16 cs → Short s.state.shared.trail → Short (leaves 𝓚 s cs).state.shared.trail
-  unfolding leaves
-  leaves_short s [] k h = h
-  leaves_short s (c ∷ cs) k h = leaves_short (call 𝓚 s c).0 cs k.1 (call_short s c k.0 h)
+  leaves_short = leaves_keep 𝓚 ShortTrail KeyIs16 call_short

@@ -1,16 +1,16 @@
 -- The refusals of each operation, by the order of its work: what a call of the machine, the reading of a map file and a run may
 -- come to. What a map or prefix call keeps of the graph, and other calls of tables, bindings and kept calls, goes along.
-use Prim.Native.Nat.{ℕ, zero, suc, ◌+◌, min}
+use Prim.Native.Nat.{ℕ, zero, suc, ◌+◌, ◌≤◌, min}
 use native.Mathlib.Omega.{arith}
 use mathlib.Core.Path.{◌≡◌, refl}
 use mathlib.Core.Bool.{Bool, true, ◌&&◌}
 use mathlib.Core.Option.{Option}
 use mathlib.Core.List.{List, [], ◌∷◌, ◌++◌, map}
-use lib.Dec.{T, leb, ltb}
-use lib.ListN.{length, get_or}
+use lib.Dec.{T, leb, ltb, ltb→lt}
+use lib.ListN.{length, get_or, length-append}
 use Rattle.rules.specs.Basics.{Result, accept}
 use Rattle.rules.specs.Values.{largest, mode_count, most_classes, most_actions, most_rules, most_parts, most_kept, most_queued, most_trail, default_mode, is_mode, is_class, is_sequence, is_status, is_repeat}
-use Rattle.rules.specs.Values.{Part, Step, map_valid, prefix_valid, Binding, Maps, Prefixes, Context, Pair}
+use Rattle.rules.specs.Values.{Part, map_valid, prefix_valid, Binding, Maps, Prefixes, Context, Pair}
 use Rattle.rules.specs.Tables.{Tables, tables_valid}
 use Rattle.rules.specs.Graph.{Graph}
 use Rattle.rules.specs.KeyLoop.{no_tracker, tracker, fetch, with_sequences, Input, input_key, reset_mode, repeat_sequence}
@@ -18,9 +18,9 @@ use Rattle.rules.specs.Calls.{Kind, Machine, graph_kind, fresh, navigate, open_w
 use Rattle.rules.specs.Numbers.{groups, value_of, shortest, number_up_to, number}
 use Rattle.rules.specs.MapFile.{Reader, then_read, lifted, such, times, list_of, read_actions, read_optional_mode, read_class, read_mode, read_rule, read_tables, repeat_by, event_by, read_part, read_step, binding_by, read_binding, read_bindings, at_end, read_map}
 use Rattle.rules.specs.Run.{most_output, numbers_in, read_keys, pair_bytes, emptied, play_keys, run}
-use Rattle.rules.proofs.Results.{Always, accepts, refuses, Whatever, always_bind, always_more, always_unless, always_if}
+use Rattle.rules.proofs.Results.{Always, accepts, refuses, Whatever, always_bind, always_more, unless_so, always_unless, always_if}
 use Rattle.rules.proofs.Grown.{Grows, any_grows, map_grows, prefix_grows}
-use Rattle.rules.proofs.Weights.{each_key}
+use Rattle.rules.proofs.Weights.{each_any}
 use Rattle.rules.proofs.Rounds.{splits, weight, halves, goto_keeps, loop_bounded}
 
 -- ---- calls of a machine
@@ -36,14 +36,16 @@ abbrev pub Stays : {𝓚 : Kind} → Machine 𝓚 → Machine 𝓚 → Type 0
 Stays s s₁ = SameMap s s₁ × (s₁.state.shared.trail ≡ s.state.shared.trail)
 
 module _ (𝓚 : Kind) {N : ℕ → Bool} where
-  pub open_always : T (N 1) → (t : Tables) → Always N (λ s. s ≡ fresh 𝓚 t) (open_with 𝓚 t)
+  pub open_always : T (N 1) → (t : Tables) → Always N (λ s. (s ≡ fresh 𝓚 t) × T (tables_valid t)) (open_with 𝓚 t)
   unfolding open_with
-  open_always one t = always_unless (tables_valid t) 1 one (accepts refl)
+  open_always one t = unless_so (tables_valid t) 1 one (λ v. accepts (refl, v))
 
   -- what a binding call came to is kept, unless with 11, and the state stays
-  pub keep_always : T (N 11) → (x : Binding) (s : Machine 𝓚) (b : 𝓚.Bindings) → Always N (λ s₁. (s₁.bindings ≡ b) × (s₁.state ≡ s.state)) (keep 𝓚 x s b)
+  pub keep_always : T (N 11) → (x : Binding) (s : Machine 𝓚) (b : 𝓚.Bindings) → Always N (λ s₁. (s₁.bindings ≡ b) × ((s₁.state ≡ s.state) × (length s₁.kept ≤ most_kept))) (keep 𝓚 x s b)
   unfolding keep
-  keep_always eleven x s b = always_unless (ltb (length s.kept) most_kept) 11 eleven (accepts (refl, refl))
+  keep_always eleven x s b =
+      unless_so (ltb (length s.kept) most_kept) 11 eleven
+      (λ so. accepts (refl, (refl, omega (arith, length-append s.kept (x ∷ []), ltb→lt (length s.kept) most_kept so))))
 
   pub key_always : T (N 8) → T (N 12) → T (N 6) → T (N 5) → T (N 7) → (i : Input) (s : Machine 𝓚)
       → Always N (λ m. m.shared.tables ≡ s.state.shared.tables) (key_call 𝓚 i s).result
@@ -52,7 +54,7 @@ module _ (𝓚 : Kind) {N : ℕ → Bool} where
       let tr = s.state.shared.trail in
       always_more (λ m h. h.tables)
       (loop_bounded (navigate 𝓚 s) twelve six five seven splits s.state.shared.tables (1 + weight (i.key ∷ []) + weight tr) (most_trail + length tr) (omega arith) (λ k. Unit {0}) tt (λ k h. tt) eight halves i.budget 0 (i.key ∷ []) s.state
-      (record { tables = refl; weighs = omega arith; few = omega arith; trails = omega arith; tries = (tt, tt); waits = each_key (λ k. tt) tr }))
+      (record { tables = refl; weighs = omega arith; few = omega arith; trails = omega arith; tries = (tt, tt); waits = each_any (λ k. tt) tr }))
 
   pub repeat_always : T (N 1) → T (N 5) → (q : ℕ) (over : Option Context) (s : Machine 𝓚) → Always N (Stays s) (repeat_call 𝓚 q over s)
   unfolding repeat_call repeat_sequence
@@ -72,15 +74,12 @@ module _ (𝓚 : Kind) {N : ℕ → Bool} where
 
 module _ {N : ℕ → Bool} (one : T (N 1)) (two : T (N 2)) (three : T (N 3)) (four : T (N 4)) (eleven : T (N 11))
     (G : Graph → Type 0) (grows : Grows G) where
-  pub map_always : (mode : ℕ) (path : List Part) (st : Step) (s : Machine graph_kind) → G s.bindings → Always N (λ s₁. G s₁.bindings) (map_call graph_kind mode path st s)
-  unfolding map_call
-  map_always mode path st s h =
+  pub bind_always : (x : Binding) (s : Machine graph_kind) → G s.bindings → Always N (λ s₁. G s₁.bindings) (bind graph_kind x s)
+  unfolding bind map_call prefix_call
+  bind_always (Maps mode path st) s h =
       always_bind (always_unless (map_valid mode path st) 1 one (map_grows G two three four grows mode path st s.bindings h))
       (λ g k. always_more (λ s₁ e. rw e.0 k) (keep_always graph_kind eleven (Maps mode path st) s g))
-
-  pub prefix_always : (mode : ℕ) (path : List Part) (os : Option Step) (s : Machine graph_kind) → G s.bindings → Always N (λ s₁. G s₁.bindings) (prefix_call graph_kind mode path os s)
-  unfolding prefix_call
-  prefix_always mode path os s h =
+  bind_always (Prefixes mode path os) s h =
       always_bind (always_unless (prefix_valid mode path os) 1 one (prefix_grows G two three four grows mode path os s.bindings h))
       (λ g k. always_more (λ s₁ e. rw e.0 k) (keep_always graph_kind eleven (Prefixes mode path os) s g))
 
@@ -185,15 +184,10 @@ module _ {N : ℕ → Bool} (nine : T (N 9)) (one : T (N 1)) where
     call_read (accepts h) bs = accepts tt
     call_read (refuses n o) bs = refuses n o
 
-    bind_always : (x : Binding) (s : Machine graph_kind) → Reads N (lifted (bind graph_kind x s))
-    unfolding bind
-    bind_always (Maps mode path st) s = call_read (map_always one two three four eleven (λ g. Unit {0}) any_grows mode path st s tt)
-    bind_always (Prefixes mode path st) s = call_read (prefix_always one two three four eleven (λ g. Unit {0}) any_grows mode path st s tt)
-
     bindings_always : (n : ℕ) (s : Machine graph_kind) → Reads N (read_bindings n s)
     unfolding read_bindings
     bindings_always zero s bs = accepts tt
-    bindings_always (suc n) s bs = then_reads (binding_always bs) (λ x cs. then_reads (bind_always x s cs) (λ s₁ ds. bindings_always n s₁ ds))
+    bindings_always (suc n) s bs = then_reads (binding_always bs) (λ x cs. then_reads (call_read (bind_always one two three four eleven (λ g. Unit {0}) any_grows x s tt) cs) (λ s₁ ds. bindings_always n s₁ ds))
 
     end_always : {A : Type 0} {x : Result (A × List ℕ)} → Always N Whatever x → Always N Whatever (at_end x)
     unfolding at_end

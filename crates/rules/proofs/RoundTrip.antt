@@ -2,8 +2,8 @@
 -- read gives the same bytes. Why: the reader accepts exactly the bytes that the writer writes (FileFormats), and a machine's
 -- bindings are what its kept calls make of a fresh machine with its tables (Kept).
 use Prim.Native.Nat.{ℕ, ◌*◌, ◌≤◌, ◌<◌}
-use mathlib.Core.Path.{◌≡◌, sym, ap, ap₂, ◌∙◌}
-use mathlib.Core.List.{List, ◌++◌, append-nil}
+use mathlib.Core.Path.{◌≡◌, sym, ap, ap₂, ◌∙◌, subst}
+use mathlib.Core.List.{List, ◌++◌, append-nil, map}
 use lib.Dec.{T}
 use lib.ListN.{length, drop, replicate}
 use borrow.Author.Tests.{le-leb, lt-leb}
@@ -15,7 +15,8 @@ use Rattle.rules.specs.MapFile.{read_map}
 use Rattle.rules.specs.Run.{code_of, output_of}
 use Rattle.rules.specs.Writing.{map_numbers, in_bytes, write_map, written, file_of, write_call}
 use Rattle.rules.proofs.Numbers.{Bytes}
-use Rattle.rules.proofs.Kept.{bind_all_kept, Replays, fresh_replays, bind_all_replays, leaves_replays}
+use Rattle.rules.proofs.Reached.{leaves_append}
+use Rattle.rules.proofs.Kept.{bind_all_kept, Replays, fresh_replays, leaves_replays, call_by, bound_by_calls}
 use Rattle.rules.proofs.Formats.{small}
 use Rattle.rules.proofs.FileFormats.{reads_file, found}
 
@@ -36,7 +37,7 @@ read_of_kept s h fits = reads_file _ _ _ (record { valid = h.valid; made = h.mad
 -- writes gives its tables, its graph and its kept calls, in the fresh state
 pub read_of_written : (t : Tables) → T (tables_valid t) → (cs : List Call) → let s : Machine graph_kind = leaves graph_kind (fresh graph_kind t) cs in
     T (small (numbers_of s)) → read_map (file_of graph_kind s) ≡ accept (as_read s)
-read_of_written t valid cs fits = read_of_kept _ (leaves_replays graph_kind cs (fresh graph_kind t) (fresh_replays graph_kind t valid)) fits
+read_of_written t valid cs fits = read_of_kept _ (leaves_replays graph_kind (fresh graph_kind t) cs (fresh_replays graph_kind t valid)) fits
 
 -- The other. Whatever bytes reading accepts, writing what was read gives them
 pub written_of_read : (bs : List ℕ) → Bytes bs → (s : Machine graph_kind) → read_map bs ≡ accept s → file_of graph_kind s ≡ bs
@@ -51,8 +52,21 @@ pub read_of_changed : (bs : List ℕ) → Bytes bs → (s₀ : Machine graph_kin
     T (small (numbers_of s)) → read_map (file_of graph_kind s) ≡ accept (as_read s)
 read_of_changed bs h s₀ e cs fits =
     let m = found bs s₀ h e in
-    let r = bind_all_replays graph_kind m.from.1 _ s₀ m.stands.made (fresh_replays graph_kind m.from.0 m.stands.valid) in
-    read_of_kept _ (leaves_replays graph_kind cs s₀ r) fits
+    let f = fresh graph_kind m.from.0 in
+    let r = leaves_replays graph_kind f (map call_by m.from.1) (fresh_replays graph_kind m.from.0 m.stands.valid) in
+    read_of_kept _ (leaves_replays graph_kind s₀ cs (subst (Replays graph_kind) (bound_by_calls graph_kind m.from.1 f s₀ m.stands.made) r)) fits
+
+-- A map that was read and then changed by any calls is what calls lead to from fresh: those that bind what it keeps, and then these.
+-- So what `Facts` and `Hint` say of every list of calls from the fresh machine holds of it
+pub read_by_calls : (bs : List ℕ) → Bytes bs → (s : Machine graph_kind) → read_map bs ≡ accept s
+    → (cs : List Call) → leaves graph_kind (fresh graph_kind s.state.shared.tables) (map call_by s.kept ++ cs) ≡ leaves graph_kind s cs
+unfolding fresh fresh_shared
+read_by_calls bs h s e cs =
+    let m = found bs s h e in
+    let f = fresh graph_kind m.from.0 in
+    let k = bind_all_kept graph_kind m.from.1 f s m.stands.made in
+    ap₂ (λ t xs. leaves graph_kind (fresh graph_kind t) (map call_by xs ++ cs)) (ap (λ m. m.shared.tables) k.1) k.0 ∙ leaves_append graph_kind f (map call_by m.from.1) cs
+    ∙ ap (λ u. leaves graph_kind u cs) (bound_by_calls graph_kind m.from.1 f s m.stands.made)
 
 -- ---- the output
 

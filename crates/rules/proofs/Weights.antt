@@ -1,12 +1,12 @@
--- What the keys of a list weigh together, where each weighs 1 and something more, whatever that is; and what holds of each key
--- of a list.
+-- What the keys of a list weigh together, where each weighs 1 and something more, whatever that is; and what holds of each of a
+-- list.
 use Prim.Native.Nat.{ℕ, ◌+◌, ◌*◌, ◌≤◌}
 use native.Mathlib.Omega.{arith}
 use mathlib.Core.Path.{◌≡◌, refl}
 use mathlib.Core.List.{List, [], ◌∷◌, ◌++◌}
 use lib.ListN.{length, drop}
 
--- ---- of each key
+-- ---- of each of a list
 
 abbrev pub Each : {A : Type 0} → (A → Type 0) → List A → Type 0
 Each K [] = Unit {0}
@@ -20,9 +20,9 @@ pub each_drop : (K : ℕ → Type 0) (xs : List ℕ) → Each K xs → Each K (d
 each_drop K [] h = tt
 each_drop K (x ∷ xs) h = h.1
 
-pub each_key : {K : ℕ → Type 0} → ((k : ℕ) → K k) → (xs : List ℕ) → Each K xs
-each_key h [] = tt
-each_key h (x ∷ xs) = (h x, each_key h xs)
+pub each_any : {A : Type 0} {K : A → Type 0} → ((k : A) → K k) → (xs : List A) → Each K xs
+each_any h [] = tt
+each_any h (x ∷ xs) = (h x, each_any h xs)
 
 pub each_map : {K L : ℕ → Type 0} → ((k : ℕ) → K k → L k) → (xs : List ℕ) → Each K xs → Each L xs
 each_map f [] h = tt

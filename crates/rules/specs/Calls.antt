@@ -202,8 +202,8 @@ find g mode a = unless (is_mode mode) 1 (accept (first_node (holds_action mode a
 
 -- ---- the node hint (document 02, request (v))
 
--- the nodes made by accepted calls since fresh: all but the roots, since a refused call leaves the graph, and only an open, which is
--- fresh, takes nodes away
+-- the nodes made by accepted calls since fresh: all but the roots, since a refused call leaves the graph, and only an open, which
+-- leaves a fresh one, takes any away
 unfoldable pub nodes_made : Graph → ℕ
 nodes_made g = length g.nodes - mode_count
 

@@ -2,7 +2,7 @@
 use Rattle.std.proofs.Common.{refl, ap, ◌∙◌, ◌≤◌, ◌<◌, ◌∷◌, [], length, subst, arith}
 use native.Mathlib.Nat.{sub-zero}
 use Rattle.rules.specs.KeyLoop.{input_key}
-use Rattle.rules.proofs.Weights.{each_key, weight_cons, weight_nil, length-weight}
+use Rattle.rules.proofs.Weights.{each_any, weight_cons, weight_nil, length-weight}
 use Rattle.keytables.specs.View.{tables_of}
 use Rattle.keypairs.specs.View.{live_of}
 use Rattle.keyloop.specs.Stack.{keys_of}
@@ -22,7 +22,7 @@ loop-rounds-init c = let a = c.args in let tr = (live_of (tables_of a.map.now.ta
         few = omega (arith, weight_cons splits a.first [], weight_nil splits);
         trails = short;
         tries = (tt, tt);
-        waits = each_key (λ k. tt) tr;
+        waits = each_any (λ k. tt) tr;
       });
       same = rw (c.of-stack.ensures, sub-zero);
     }
