@@ -1,7 +1,7 @@
 /*
  * A shift with a scanner, to be copied: a machine in static storage, keys and the pairs that they give, a sequence that is
- * repeated, bindings that are added on the way, how many more fit, refusals that are handled, and what a help screen asks. It
- * prints what it does; shift.out is what it must print.
+ * repeated, bindings that are added on the way, how many more fit, refusals that are handled, what a help screen asks, and a new
+ * map that comes while a pair waits and a path is half typed. It prints what it does; shift.out is what it must print.
  */
 #include "../include/keymap.h"
 
@@ -11,7 +11,7 @@
 static uint64_t storage[KEYMAP_SIZE / 8];
 static keymap_machine *const machine = (keymap_machine *)storage;
 
-/* Rounds for a key: many more than this map needs. */
+/* Rounds for a key: many more than these maps need. */
 enum { BUDGET = 1000 };
 
 /* A key that the maps of this firmware leave unbound. */
@@ -54,6 +54,18 @@ static const uint8_t binding[] = {0, 0, 1, 0, 0, 'x', 0, 1, LABEL, 0, 0, 0};
 /* And another for the same action: key l. */
 static const uint8_t another[] = {0, 0, 1, 0, 0, 'l', 0, 1, LABEL, 0, 0, 0};
 
+/* The map for the second half of the shift: a bin also gets a label, and there is no stock to count. */
+static const uint8_t next_map[] = {
+    1, 0, '0', '9',                           /* the digits, as before */
+    1, 0, 1, BEEP, 0,                         /* one mode; an unmapped key beeps */
+    1, 0, PICK, PUT, 0, 4,                    /* the rule that tracks; STOCK needs none */
+    3,                                        /* three bindings */
+    1, 0, 1, 0, 1, 0,                         /* the prefix for the count */
+    0, 0, 1, 0, 0, 'p', 0, 1, PICK, 0, 0, 0,  /* p: PICK */
+    0, 0, 2, 0, 0, 'b', 0, 2,                 /* b and any key: */
+    0, 2, PUT, LABEL, 0, 0, 0,                /* PUT, and now LABEL too */
+};
+
 static const char *name_of(unsigned action) {
     for (size_t i = 0; i < NAMES; i++)
         if (names[i].action == action)
@@ -87,7 +99,7 @@ static unsigned press_once(char key, uint16_t budget) {
 }
 
 /* A number over 65,535 was typed. Its last digit was refused, and those before it would count for the next key. So CLEAR is
-   pressed, which takes them and beeps, and the clerk types the number again. No path of this map keeps digits on the trail, so
+   pressed, which takes them and beeps, and the clerk types the number again. No path of these maps keeps digits on the trail, so
    CLEAR cannot be refused as they are tried again. */
 static void clear_number(void) {
     printf("the number is too large: type it again\n");
@@ -117,11 +129,16 @@ static void press_all(const char *keys) {
 }
 
 /* Says what came of a call whose result is its refusal alone. */
-static void tell(const char *call, uint64_t refusal) {
+static void say(const char *call, uint64_t refusal) {
     if (refusal == KEYMAP_ACCEPTED)
         printf("%s: accepted\n", call);
     else
         printf("%s: refused %u\n", call, (unsigned)refusal);
+}
+
+/* The same, and does what waits. */
+static void tell(const char *call, uint64_t refusal) {
+    say(call, refusal);
     do_waiting();
 }
 
@@ -130,7 +147,7 @@ static void tell_mode(void) {
 }
 
 /* For a supervisor who plans bindings: each key of a path takes a node, mostly none where an earlier path begins the same. The
-   map above takes 5, for p, b, any, s and d; its prefix takes none. */
+   first map takes 5, for p, b, any, s and d; its prefix takes none. */
 static void tell_free(void) {
     printf("%u nodes are left\n", KEYMAP_FREE(keymap_free(machine)));
 }
@@ -208,6 +225,18 @@ int main(void) {
     tell("repeat", keymap_repeat(machine, 0));
 
     tell_help();
+
+    /* A new map comes. The firmware has not popped yet, so a pick waits, and the clerk has typed b and not the bin. A map that is
+       cut off is refused, and the old one goes on. With the whole one, which takes 3 nodes, the pick waits on, and b C ends as the
+       new map says. What the sequence remembers passes over. */
+    press_once('8', BUDGET);
+    press_once('p', BUDGET);
+    press_once('b', BUDGET);
+    say("change, cut off", keymap_change(machine, next_map, sizeof next_map - 1));
+    say("change", keymap_change(machine, next_map, sizeof next_map));
+    tell_free();
+    press_all("C");
+    tell("repeat", keymap_repeat(machine, 0));
 
     /* The next clerk begins anew: a count that was typed is gone, and the sequence is broken. */
     press_all("6");

@@ -39,6 +39,9 @@ static void open_map(void) {
 static void bind(void) {
     result = keymap_bind(machine, map, map_count);
 }
+static void change_map(void) {
+    result = keymap_change(machine, map, map_count);
+}
 static void key(void) {
     result = keymap_key(machine, first, second);
 }
@@ -70,18 +73,18 @@ static void run(void) {
     result = keymap_run(map, map_count, keys, keys_count, output, output_count, second);
 }
 
-enum { NOTHING, SIZE, OPEN, BIND, KEY, POP, REPEAT, REPEAT_OVER, RESET, MODE, FIND, FREE, WRITE, RUN, CALLS };
+enum { NOTHING, SIZE, OPEN, BIND, CHANGE, KEY, POP, REPEAT, REPEAT_OVER, RESET, MODE, FIND, FREE, WRITE, RUN, CALLS };
 
 static void (*const calls[CALLS])(void) = {
-    nothing, size, open_map, bind, key, pop, repeat, repeat_over, reset, mode, find, free_nodes, write_map, run};
-static const char *const names[CALLS] = {"", "size", "open", "bind", "key", "pop", "repeat", "repeat_over", "reset", "mode",
-                                         "find", "free", "write", "run"};
+    nothing, size, open_map, bind, change_map, key, pop, repeat, repeat_over, reset, mode, find, free_nodes, write_map, run};
+static const char *const names[CALLS] = {"", "size", "open", "bind", "change", "key", "pop", "repeat", "repeat_over", "reset",
+                                         "mode", "find", "free", "write", "run"};
 /* The most that each may take, in KiB. A key, a pop and a reset may be made where little stack is left. */
-static const unsigned limits[CALLS] = {0, 384, 384, 384, 32, 32, 384, 384, 32, 384, 384, 384, 384, 256};
+static const unsigned limits[CALLS] = {0, 384, 384, 384, 384, 32, 32, 384, 384, 32, 384, 384, 384, 384, 256};
 static uint64_t stacks[CALLS][STACK / 8];
 
 /* The refusals that must be met and those that were, a bit for each number; bit 0 is acceptance. */
-static const unsigned wanted[CALLS] = {0, 0, 0xa1f, 0xa1f, 0x11e1, 0, 0x23, 0x23, 0x61, 0, 0x3, 0, 0x401, 0x1fff};
+static const unsigned wanted[CALLS] = {0, 0, 0xa1f, 0xa1f, 0xa1f, 0x11e1, 0, 0x23, 0x23, 0x61, 0, 0x3, 0, 0x401, 0x1fff};
 static unsigned met[CALLS];
 
 /* Makes the call on its stack. */
@@ -219,7 +222,14 @@ static void put_many_edges(void) {
     put(0);
 }
 
-/* A map of so many edges, 2,040 or more, is run and opened, and one edge more is bound. */
+/* The map is run, and a machine is opened with it and changed to it. */
+static void make_of_map(void) {
+    make(RUN);
+    make(OPEN);
+    make(CHANGE);
+}
+
+/* A map of so many edges, 2,040 or more, is run, opened and changed to, and one edge more is bound. */
 static void work_with_edges(unsigned count) {
     map_count = 0;
     put(0);
@@ -229,8 +239,7 @@ static void work_with_edges(unsigned count) {
     put_many_edges();
     for (unsigned i = 2040; i < count; i++)
         put_edge(i);
-    make(RUN);
-    make(OPEN);
+    make_of_map();
     map_count = 0;
     put_edge(count);
     make(BIND);
@@ -292,15 +301,14 @@ static void put_full_binding(int repeats) {
     put(65535);
 }
 
-/* A map of so many bindings is run and opened, the machine's map is written, and one binding more is bound. */
+/* A map of so many bindings is run, opened and changed to, the machine's map is written, and one binding more is bound. */
 static void work_with_bindings(unsigned count) {
     map_count = 0;
     put_full_tables();
     put(count);
     for (unsigned i = 0; i < count; i++)
         put_full_binding(i > 0);
-    make(RUN);
-    make(OPEN);
+    make_of_map();
     output_count = map_count;
     make(WRITE);
     output_count--;
@@ -315,12 +323,11 @@ static void work_with_falling(void) {
     static const uint8_t falling[] = {0, 0, 0, 2, 0, 0, 1, 0, 0, 97, 0, 1, 7, 0, 2, 0, 0, 0, 2, 0, 0, 97, 0, 3, 0, 1, 7, 0, 0, 0};
     memcpy(map, falling, sizeof falling);
     map_count = sizeof falling;
-    make(RUN);
-    make(OPEN);
+    make_of_map();
 }
 
-/* A map is run and opened; then keys are pressed, with all the other calls among them, and bindings are added. */
-static void work_with(int strict, unsigned most_repeats) {
+/* A map from the seed, whole or damaged. */
+static void choose_map(int strict, unsigned most_repeats) {
     unsigned bindings = below(BINDINGS);
     map_count = 0;
     put_tables(strict);
@@ -328,6 +335,11 @@ static void work_with(int strict, unsigned most_repeats) {
     while (bindings-- > 0)
         put_binding(most_repeats);
     damage();
+}
+
+/* A map is run and opened; then keys are pressed, with all the other calls among them, and bindings and whole maps follow. */
+static void work_with(int strict, unsigned most_repeats) {
+    choose_map(strict, most_repeats);
     for (keys_count = 0; keys_count < KEYS; keys_count++)
         keys[keys_count] = (uint8_t)(below(200) == 0 ? 0x80 : 48 + below(7));
     choose_key();
@@ -360,6 +372,10 @@ static void work_with(int strict, unsigned most_repeats) {
         if (below(9) == 0) {
             output_count = below(2) * sizeof output;
             make(WRITE);
+        }
+        if (below(99) == 0) {
+            choose_map(strict, most_repeats);
+            make(CHANGE);
         }
     }
 }

@@ -2,7 +2,8 @@
  * Key maps for scanner firmware: link libkeymap.a.
  *
  * The firmware keeps a machine and opens it with a map. Then it presses each key of the clerk and pops the pairs that the
- * key gave. examples/shift.c is a whole shift. What was bound since the map came is sent back as a map: examples/shelf.c.
+ * key gave. A new map may come at any time. examples/shift.c is a whole shift. What was bound since the map came is sent back as
+ * a map: examples/shelf.c.
  *
  *   key       What the clerk presses, 0 to 65,535; one from 32,768 on that nothing is bound to is tried as 27 and the rest.
  *   class     A number, 0 to 255, by which a binding names all keys of some ranges.
@@ -49,6 +50,7 @@ extern "C" {
  *     keymap_size          1 KiB
  *     keymap_open        202 KiB
  *     keymap_bind        121 KiB
+ *     keymap_change      215 KiB
  *     keymap_key          20 KiB
  *     keymap_pop           3 KiB
  *     keymap_repeat        3 KiB
@@ -84,7 +86,7 @@ enum {
     KEYMAP_BUDGET = 8,         /* the budget is used up: press again with a larger one; if 65,535 are too few, the map loops */
     KEYMAP_NUMBER = 9,         /* the bytes end early, go on behind the end or hold a bad number: they are damaged or cut off */
     KEYMAP_OUTPUT = 10,        /* the pairs or the map do not fit: lend more output, or run fewer keys at once */
-    KEYMAP_BINDINGS = 11,      /* 1,024 bindings are kept already: open a map that has fewer, and bind to that */
+    KEYMAP_BINDINGS = 11,      /* 1,024 bindings are kept already: open or change to a map that has fewer, and bind to that */
     KEYMAP_COUNT_OVERFLOW = 12 /* the count would pass 65,535: press an unbound key, which takes what was typed; type again */
 };
 
@@ -108,6 +110,18 @@ uint64_t keymap_open(keymap_machine *machine, const uint8_t *map, size_t map_cou
  * The result is the refusal: RANGE, NODES, EDGES, MODE, NUMBER or BINDINGS.
  */
 uint64_t keymap_bind(keymap_machine *machine, const uint8_t *binding, size_t binding_count);
+
+/*
+ * Changes the map in the middle of a shift. The new one is read whole, as by keymap_open, and takes the place of tables and
+ * bindings, those added by keymap_bind too: the bindings kept are its own, and keymap_free begins anew with its nodes. Pairs that
+ * wait, sequences, the mode and the count and mark so far pass over, and no pair is given.
+ * The trail is followed in the new map, from the start of the mode that the machine is in. If each of its keys needs more there
+ * and none falls through, the path goes on in the new map with the next key. Otherwise the trail is dropped, and the next key
+ * begins in that mode anew. Keys that are followed do not count or mark again, and none is tried as 27 and the rest.
+ * The result is the refusal, the first met in the file: RANGE or NUMBER at a number; NODES, EDGES, MODE or BINDINGS after a
+ * binding's last number; NUMBER for bytes left over. Refused, the old map goes on.
+ */
+uint64_t keymap_change(keymap_machine *machine, const uint8_t *map, size_t map_count);
 
 /*
  * Presses a key. Its pairs wait behind those that wait already. A key mostly takes one round, and more where it ends a trail
@@ -168,10 +182,11 @@ uint64_t keymap_find(const keymap_machine *machine, uint16_t mode, uint16_t acti
 #define KEYMAP_NODE(result) ((unsigned)((result) / 32 - 1))
 
 /*
- * How many nodes are left for bindings: exactly 1,024 less those that accepted bindings have made since the machine was opened,
- * the map's own among them. So a supervisor can plan: each key of a path takes at most one node, and mostly none where an
- * earlier path begins the same; a repeat takes more. docs/KEYMAPS.md says it exactly. A refused call takes none, and no call
- * but keymap_open gives any back. Edges and bindings have limits of their own. Never refused.
+ * How many nodes are left for bindings: exactly 1,024 less those that accepted bindings have made since the last accepted
+ * keymap_open or keymap_change, those of its map among them. So a supervisor can plan: each key of a path takes at most one node,
+ * and mostly none where an earlier path begins the same; a repeat takes more. docs/KEYMAPS.md says it exactly. A refused call
+ * takes none, and no call but keymap_open and keymap_change gives any back. Edges and bindings have limits of their own. Never
+ * refused.
  * The result is nodes * 32.
  */
 uint64_t keymap_free(const keymap_machine *machine);
@@ -179,9 +194,9 @@ uint64_t keymap_free(const keymap_machine *machine);
 #define KEYMAP_FREE(result) ((unsigned)((result) / 32))
 
 /*
- * Writes the machine's map to the front of the output: classes, modes and rules as they were opened, and the bindings kept, in
- * their order. keymap_open takes those bytes; the machine that it makes has the same map, keeps the same bindings, and writes
- * the same bytes. Keys, pairs, sequences and the entered mode are no part of a map. The whole output may be used, and
+ * Writes the machine's map to the front of the output: classes, modes and rules as they were read, and the bindings kept, in
+ * their order. keymap_open and keymap_change take those bytes; the machine then has the same map, keeps the same bindings, and
+ * writes the same bytes. Keys, pairs, sequences and the entered mode are no part of a map. The whole output may be used, and
  * KEYMAP_LONGEST bytes are enough for every map; most are far shorter.
  * The result is length * 32 + refusal: OUTPUT. So many bytes were written, and the output behind them stays; refused, all of it
  * is zeros.

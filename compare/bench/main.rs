@@ -305,17 +305,18 @@ fn most_reading(bytes: &[u8]) -> f64 {
     20e6 * (bytes.len() as f64 / 60e3).max(1.0)
 }
 
-/// Milliseconds to read a map: a run without keys, and the opening of a lent machine.
+/// Milliseconds to read a map: a run without keys, the opening of a lent machine, and a change to the map that it has.
 fn reading_rows(works: &[Work]) {
-    println!("| map | bytes | keymap_run, ms | keymap_open, ms | at most 20 ms for 60,000 bytes |");
-    println!("|---|---|---|---|---|");
+    println!("| map | bytes | keymap_run, ms | keymap_open, ms | keymap_change, ms | at most 20 ms for 60,000 bytes |");
+    println!("|---|---|---|---|---|---|");
     for (what, bytes) in maps_of(works) {
         let mut output = vec![0; ROOM];
         let result = ours::run(&bytes, &[], &mut output);
         assert_eq!(result, 0, "{what}: refused with {}", result % 32);
         let mut machine = Lent::open(&bytes);
+        let mut changed = Lent::open(&bytes);
         let often = often(&bytes);
-        let [run, open] = compare([
+        let [run, open, change] = compare([
             &mut || {
                 clock(|| {
                     for _ in 0..often {
@@ -330,11 +331,40 @@ fn reading_rows(works: &[Work]) {
                     }
                 })
             },
+            &mut || {
+                clock(|| {
+                    for _ in 0..often {
+                        black_box(changed.change(&bytes));
+                    }
+                })
+            },
         ]);
-        let (run, open) = (run.each(often), open.each(often));
+        let (run, open, change) = (run.each(often), open.each(often), change.each(often));
         let most = most_reading(&bytes);
-        let met = target(run.best <= most && open.best <= most);
-        println!("| {what} | {} | {} | {} | {met} |", bytes.len(), ms(run), ms(open));
+        let met = target([run, open, change].iter().all(|times| times.best <= most));
+        println!("| {what} | {} | {} | {} | {} | {met} |", bytes.len(), ms(run), ms(open), ms(change));
+    }
+    trail_rows();
+}
+
+/// A map of one path, of up to 70 times `a` and then `b`.
+const LONG_PATH: [u8; 20] = [0, 0, 0, 1, 0, 0, 2, 2, 70, 0, b'a', 0, 0, b'b', 0, 1, 7, 0, 0, 0];
+
+/// Microseconds to change to a map with keys on the trail, each of which needs more there.
+fn trail_rows() {
+    println!("\n| keys on the trail | keymap_change, µs |");
+    println!("|---|---|");
+    for typed in [0, 64] {
+        let mut machine = Lent::open(&LONG_PATH);
+        machine.press(&vec![u16::from(b'a'); typed]);
+        let [change] = compare([&mut || {
+            clock(|| {
+                for _ in 0..ours::MANY {
+                    assert_eq!(black_box(machine.change(&LONG_PATH)), 0);
+                }
+            })
+        }]);
+        println!("| {typed} | {} |", hundredths(change.each(ours::MANY as usize)));
     }
 }
 
@@ -515,6 +545,12 @@ fn stack_rows(works: &[Work]) {
             let (node, _, pairs) = ours::other_calls(&works[0].bytes);
             assert!((16..1040).contains(&node), "find gives no node: {node}");
             assert_eq!(pairs, 1, "a sequence remembers {pairs} pairs of one");
+        }),
+    );
+    row(
+        "a change by value, with the map's reading",
+        stack::peak(|| {
+            black_box(ours::change(&most.bytes));
         }),
     );
     row("adding to a graph by value", stack::peak(|| graph::add_by_value(510)));

@@ -14,6 +14,7 @@ extern "C" {
     fn bench_inputs(map: *const u8, map_count: usize, times: u16) -> u64;
     fn bench_repeats(map: *const u8, map_count: usize, times: u16) -> u64;
     fn bench_resets(map: *const u8, map_count: usize, times: u16) -> u64;
+    fn bench_changes(map: *const u8, map_count: usize, times: u16) -> u64;
     fn bench_finds(map: *const u8, map_count: usize, times: u16) -> u64;
 }
 
@@ -49,6 +50,11 @@ pub fn other_calls(map: &[u8]) -> (u16, u16, u16) {
     (answer as u16, (answer >> 16) as u16, (answer >> 32) as u16)
 }
 
+/// One change of map by value.
+pub fn change(map: &[u8]) -> u64 {
+    call(bench_changes, map, 1)
+}
+
 /// A call by value, so many times, on the machine of a map. The answer depends on what each call gave.
 pub type Call = unsafe extern "C" fn(*const u8, usize, u16) -> u64;
 
@@ -62,13 +68,14 @@ pub const MANY: u16 = 2_000;
 pub const FEW: u16 = 20;
 
 /// The calls that are timed one by one, with how often on one machine.
-pub const CALLS: [(&str, Call, u16); 7] = [
+pub const CALLS: [(&str, Call, u16); 8] = [
     ("open, with 16 modes and 64 rules", opens, MANY),
     ("add_mapping, two keys", bench_mappings, FEW),
     ("add_prefix, two keys", bench_prefixes, FEW),
     ("input_key", bench_inputs, MANY),
     ("repeat, 64 pairs remembered", bench_repeats, MANY),
     ("reset_mode", bench_resets, MANY),
+    ("change, with no key on the trail", bench_changes, MANY),
     ("find, mostly of an action that no step has", bench_finds, MANY),
 ];
 
@@ -76,11 +83,12 @@ pub fn call(call: Call, map: &[u8], times: u16) -> u64 {
     unsafe { call(map.as_ptr(), map.len(), times) }
 }
 
-/// What one call leaves shows that it was not refused: a key and a repeat leave so many pairs, and a mapping of two keys makes
-/// a node more than a prefix of two.
+/// What one call leaves shows that it was not refused: a key and a repeat leave so many pairs, a mapping of two keys makes a node
+/// more than a prefix of two, and a change comes to the root of mode 0.
 pub fn check_calls(map: &[u8]) {
     assert_eq!(call(bench_inputs, map, 1), 1);
     assert_eq!(call(bench_repeats, map, 1), 64);
+    assert_eq!(call(bench_changes, map, 1), 0);
     assert_eq!(call(bench_mappings, map, 1), call(bench_prefixes, map, 1) + 1);
 }
 
@@ -91,6 +99,7 @@ pub mod lent {
     extern "C" {
         fn keymap_size() -> usize;
         fn keymap_open(machine: *mut u64, map: *const u8, map_count: usize) -> u64;
+        fn keymap_change(machine: *mut u64, map: *const u8, map_count: usize) -> u64;
         fn keymap_key(machine: *mut u64, key: u16, budget: u16) -> u64;
         fn keymap_pop(machine: *mut u64) -> u64;
         fn keymap_bind(machine: *mut u64, binding: *const u8, binding_count: usize) -> u64;
@@ -119,6 +128,10 @@ pub mod lent {
 
         pub fn reopen(&mut self, map: &[u8]) -> u64 {
             unsafe { keymap_open(self.0.as_mut_ptr(), map.as_ptr(), map.len()) }
+        }
+
+        pub fn change(&mut self, map: &[u8]) -> u64 {
+            unsafe { keymap_change(self.0.as_mut_ptr(), map.as_ptr(), map.len()) }
         }
 
         /// Its bytes are those of another machine from now on.

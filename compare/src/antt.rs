@@ -84,6 +84,16 @@ fn call(c: &Call) -> String {
         Call::Pop => "Pop".into(),
         Call::Repeat(sequence, over) => format!("Repeats {sequence} {}", option(over, context)),
         Call::Reset => "Reset".into(),
+        Call::Change(t, bindings) => format!("Change {} {}", tables(t), list(bindings, binding)),
+    }
+}
+
+/// A binding of a change.
+fn binding(c: &Call) -> String {
+    match c {
+        Call::Map(mode, path, s) => format!("Maps {mode} {} {}", list(path, part), step(s)),
+        Call::Prefix(mode, path, s) => format!("Prefixes {mode} {} {}", list(path, part), option(s, step)),
+        _ => unreachable!("a change has bindings only"),
     }
 }
 
@@ -177,11 +187,11 @@ use mathlib.Core.Bool.{Bool, true, false}
 use mathlib.Core.Option.{Option, none, some}
 use mathlib.Core.List.{List, [], ◌∷◌}
 use Rattle.rules.specs.Basics.{accept, refuse, open-Basics}
-use Rattle.rules.specs.Values.{Key, Class, Any, Fallthrough, Once, Min, Max, pair, open-Values}
+use Rattle.rules.specs.Values.{Key, Class, Any, Fallthrough, Once, Min, Max, Maps, Prefixes, pair, open-Values}
 use Rattle.rules.specs.Tables.{open-Tables}
 use Rattle.rules.specs.Graph.{Empty, Root, Holds, open-Graph}
 use Rattle.rules.specs.KeyLoop.{open-KeyLoop}
-use Rattle.rules.specs.Calls.{Open, Map, Prefix, Pop, Repeats, Reset, graph_kind, open-Calls}
+use Rattle.rules.specs.Calls.{Open, Map, Prefix, Pop, Repeats, Reset, Change, graph_kind, open-Calls}
 use Rattle.rules.specs.Calls.{Accepted, Refused, Popped, Nothing, Pressed, PressRefused}
 use Rattle.rules.specs.ListReader.{list_kind, open-ListReader}
 use Rattle.rules.specs.Numbers.{open-Numbers}

@@ -3,13 +3,14 @@
 //! The same lines hold for the calls of C on one machine.
 
 use crate::calls::{Answer, Call, Tables};
+use crate::changes;
 use crate::finds;
 use crate::graph::limits;
 use crate::hints;
 use crate::mapfile::bindings_of;
-use crate::met::{expect_all, met_named, met_named_if};
+use crate::met::{aside, expect_all, expect_named, met_named, met_named_if};
 use crate::play::{Both, Seen};
-use crate::writing::{bytes_of, hexadecimal, put_binding, put_tables};
+use crate::writing::{bytes_of, hexadecimal, numbers_of, put_binding, put_tables};
 
 /// What may stand in a list.
 #[derive(Clone, Debug, PartialEq)]
@@ -20,11 +21,22 @@ pub enum Item {
     Write(Room),
     /// A call with a number that is no kind or flag: it is answered with 1, and the play goes on.
     Unknown(Vec<u32>),
+    /// A change with such a binding, which is refused with 1 in its turn.
+    OddChange(OddChange),
     /// What is no call. It ends the play with 9, whatever follows.
     Malformed(Vec<u8>),
 }
 
 pub type List = Vec<Item>;
+
+/// Tables, bindings, the numbers of one with an odd kind or flag, and bindings behind it.
+#[derive(Clone, Debug, PartialEq)]
+pub struct OddChange {
+    pub tables: Tables,
+    pub before: Vec<Call>,
+    pub odd: Vec<u32>,
+    pub behind: Vec<Call>,
+}
 
 /// The bytes that are lent to a writer: so many, or by the length of the file that is to be written.
 #[derive(Clone, Copy, Debug, PartialEq)]
@@ -80,7 +92,43 @@ fn put_call(call: &Call, out: &mut Vec<u32>) {
         Call::Repeat(sequence, None) => out.extend([5, *sequence as u32, 0]),
         Call::Repeat(sequence, Some(c)) => out.extend([5, *sequence as u32, 1, c.count as u32, c.mark as u32]),
         Call::Reset => out.push(6),
+        Call::Change(tables, bindings) => {
+            out.push(CHANGE);
+            out.extend(numbers_of(tables, bindings));
+        },
     }
+}
+
+/// The number of a change. A map file's numbers follow it.
+const CHANGE: u32 = 10;
+
+impl OddChange {
+    fn put(&self, out: &mut Vec<u32>) {
+        out.push(CHANGE);
+        put_tables(&self.tables, out);
+        out.push((self.before.len() + 1 + self.behind.len()) as u32);
+        self.before.iter().for_each(|b| put_binding(b, out));
+        out.extend(&self.odd);
+        self.behind.iter().for_each(|b| put_binding(b, out));
+    }
+
+    /// The number of its refusal on the model.
+    fn refusal(&self, both: &Both) -> u16 {
+        let before = Call::Change(self.tables.clone(), self.before.clone());
+        match aside(|| both.model.clone().call(&before)) {
+            Answer::Refused(n) => n,
+            _ => 1,
+        }
+    }
+}
+
+/// The map file of an item that begins as a change does.
+pub fn file_in(item: &Item) -> Option<Vec<u8>> {
+    let bytes = match item {
+        Item::Call(Call::Change(..)) | Item::OddChange(_) | Item::Malformed(_) => bytes_of_item(item),
+        _ => return None,
+    };
+    bytes.split_first().filter(|(first, _)| **first as u32 == CHANGE).map(|(_, file)| file.to_vec())
 }
 
 /// An item's bytes. Those of a binding are the map file's too.
@@ -93,6 +141,7 @@ pub fn bytes_of_item(item: &Item) -> Vec<u8> {
         Item::Write(Room::Of(room)) => numbers.extend([9, *room as u32]),
         Item::Write(_) => unreachable!("the file's length is known before the call is written"),
         Item::Unknown(call) => numbers.extend(call),
+        Item::OddChange(change) => change.put(&mut numbers),
         Item::Malformed(bytes) => return bytes.clone(),
     }
     bytes_of(&numbers)
@@ -127,10 +176,12 @@ fn settled(seen: &Seen) -> String {
 }
 
 fn find(both: &Both, mode: u16, action: u16) -> String {
+    changes::note_find(both.is_changed());
     format!("{} mode {}", finds::answer(both.model.graph(), mode, action), both.model.mode())
 }
 
 fn hint(both: &Both) -> String {
+    changes::note_hint(both.is_changed());
     format!("{} mode {}", hints::answer(both.model.graph(), both.last()), both.model.mode())
 }
 
@@ -143,6 +194,7 @@ fn write(both: &Both, room: Room) -> Result<String, String> {
         return Err(format!("the model's file {} is not read as it was", hexadecimal(&file)));
     }
     note_write(file.len(), room, both.model.keeps());
+    changes::note_write(both.is_changed());
     let answer = if file.len() > room { "refused 10".into() } else { format!("file {}", hexadecimal(&file)) };
     Ok(format!("{answer} mode {mode}"))
 }
@@ -184,6 +236,13 @@ fn note_write(length: usize, room: usize, kept: usize) {
     met_named_if(!fits, REFUSED);
     met_named_if(length == room + 1, REFUSED_BY_ONE);
     met_named_if(!fits && room > 65_536, REFUSED_FAR);
+}
+
+const ODD: &str = "change: with a kind or flag that there is not";
+
+/// What a report shows of such changes even when it is never met: 1 in its turn, and the refusal of a binding before it.
+pub fn expect_odd() {
+    [1, 2, 3, 4, 11].iter().for_each(|n| expect_named(format!("{ODD}: refused {n}")));
 }
 
 /// What a list comes to.
@@ -295,6 +354,11 @@ fn answer(both: &mut Both, item: &Item) -> Result<String, String> {
         Item::Unknown(_) => {
             met_named("a kind or flag that there is not: refused 1".into());
             format!("refused 1 mode {}", both.model.mode())
+        },
+        Item::OddChange(change) => {
+            let refusal = change.refusal(both);
+            met_named(format!("{ODD}: refused {refusal}"));
+            format!("refused {refusal} mode {}", both.model.mode())
         },
         Item::Malformed(_) => {
             met_named("a malformed call: refused 9".into());

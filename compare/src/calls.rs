@@ -67,6 +67,7 @@ pub struct Tables {
     pub rules: Vec<Rule>,
 }
 
+/// A change has map and prefix calls alone.
 #[derive(Clone, Debug, PartialEq)]
 pub enum Call {
     Open(Tables),
@@ -76,6 +77,7 @@ pub enum Call {
     Pop,
     Repeat(u16, Option<Context>),
     Reset,
+    Change(Tables, Vec<Call>),
 }
 
 /// (action, count, mark)

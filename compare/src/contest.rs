@@ -7,6 +7,7 @@ use std::time::{Duration, Instant};
 
 use crate::calllist::{self, differing, plays, List, Play};
 use crate::cases::{any_case_of, input_of_case, Case};
+use crate::changes;
 use crate::finds;
 use crate::hints;
 use crate::lent;
@@ -51,7 +52,7 @@ impl Contest {
         let turns = seed - first;
         let runs = turns * RUNS_A_LIST;
         println!("{turns} lists on callplay, the same {turns} on a lent machine of the archive by its C functions");
-        println!("{runs} runs on the archive and {turns} inputs of keyplay");
+        println!("{runs} runs on the archive, as many changes to their maps, and {turns} inputs of keyplay");
         println!("seeds {first} to {}: no difference in {seconds} seconds", seed - 1);
         true
     }
@@ -153,7 +154,7 @@ fn case_difference(case: &Case) -> Option<String> {
     };
     let (given, written) = ours::run(case);
     if (code as u64, &output) == (given, &written) {
-        return None;
+        return lent::change_difference(&case.map);
     }
     Some(format!("must return {code} and write {output:02X?}\nreturns {given} and writes {written:02X?}"))
 }
@@ -175,8 +176,10 @@ fn guarded<T>(work: impl FnOnce() -> Result<T, String>) -> Result<T, String> {
 pub fn expect_met() {
     expect_answers();
     calllist::expect_writes();
+    calllist::expect_odd();
     finds::expect();
     hints::expect();
+    changes::expect();
     met::expect_named("run: accepted".into());
     (1..=12).for_each(|n| met::expect_named(format!("run: refused {n:2}")));
     met::expect_named("run: the output is full to its last byte".into());

@@ -2,6 +2,7 @@
 //! keys meet bindings and actions meet rules.
 
 use crate::calls::{Call, ClassEntry, Context, Event, ModeEntry, Part, Repeat, Rule, Step, Tables};
+use crate::changing::with_changes;
 
 /// SplitMix64: a generator of a few lines that needs no crate.
 pub struct Random(u64);
@@ -97,6 +98,10 @@ impl Gen {
         let odd = if random.chance(30) { 15 } else { 0 };
         let counting = random.chance(15);
         Gen { random, kind, keys, modes, longest, odd, counting, known: vec![] }
+    }
+
+    pub fn is_plain(&self) -> bool {
+        self.kind == Kind::Plain
     }
 
     // ---- values
@@ -438,14 +443,21 @@ impl Gen {
                 self.damage(call);
             }
         }
+        if self.random.chance(30) {
+            return with_changes(self, list);
+        }
         list
     }
 
     // ---- values out of their ranges
 
-    fn damage(&mut self, call: &mut Call) {
+    pub fn damage(&mut self, call: &mut Call) {
         match call {
             Call::Open(t) => self.damage_tables(t),
+            Call::Change(t, bindings) => match self.random.below(bindings.len() as u64 + 1) {
+                0 => self.damage_tables(t),
+                n => self.damage(&mut bindings[n as usize - 1]),
+            },
             Call::Map(mode, path, step) => match self.random.below(3) {
                 0 => *mode = self.bad_mode(),
                 1 => self.damage_path(path),

@@ -6,7 +6,7 @@ use crate::met::{expect_all, met_named, met_named_if};
 
 /// 1,024 less the nodes that accepted calls have made since the machine was fresh. These are the nodes of the model's graph
 /// beside the roots, of which none is ever taken away: a refused call leaves the copy of the model that was made before it,
-/// without the nodes of its work (`Model::tried`), and an accepted open leaves a fresh graph.
+/// without the nodes of its work (`Model::tried`), and an open and a change begin with a fresh graph.
 pub fn hint(graph: &Graph) -> usize {
     limits().nodes - graph.size().0
 }
@@ -26,17 +26,20 @@ pub enum Last {
     Open(bool),
     /// A binding: the number of its refusal or 0, and how many nodes its work had made when it ended.
     Binding(u16, usize),
-    /// Any other, or an open of a machine without such nodes.
+    /// A change of the map of a machine with some nodes: the same, of the new map.
+    Change(u16, usize),
+    /// Any other, or an open or a change of a machine without such nodes.
     Other,
 }
 
 impl Last {
-    /// The call of a machine with so many nodes beside the roots, whose work has made so many more.
-    pub fn of(call: &Call, answer: Answer, nodes: usize, made: usize) -> Self {
+    /// The call of a machine with so many nodes beside the roots, whose work had so many when it ended.
+    pub fn of(call: &Call, answer: Answer, nodes: usize, ended: usize) -> Self {
         let refusal = if let Answer::Refused(n) = answer { n } else { 0 };
         match call {
             Call::Open(_) if nodes > 0 => Last::Open(refusal == 0),
-            Call::Map(..) | Call::Prefix(..) => Last::Binding(refusal, made),
+            Call::Map(..) | Call::Prefix(..) => Last::Binding(refusal, ended - nodes),
+            Call::Change(..) if nodes > 0 => Last::Change(refusal, ended),
             _ => Last::Other,
         }
     }
@@ -69,6 +72,8 @@ const NONE_REFUSED: &str = "hint: none left, after a refused binding";
 const OTHER: &str = "hint: nodes made, after a key, a pop, a repeat or a reset";
 const OPENED: &str = "hint: after an accepted open of a machine that had nodes";
 const OPEN_REFUSED: &str = "hint: after a refused open of a machine that had nodes";
+const CHANGED: &str = "hint: after an accepted change of a map that had nodes";
+const CHANGE_REFUSED: &str = "hint: after a change refused when its bindings had made nodes";
 
 /// What a report shows of the hint even when it is never met.
 pub fn expect() {
@@ -88,6 +93,8 @@ pub fn expect() {
         OTHER,
         OPENED,
         OPEN_REFUSED,
+        CHANGED,
+        CHANGE_REFUSED,
     ]);
 }
 
@@ -102,6 +109,8 @@ fn note(graph: &Graph, last: Last) {
         Last::Open(accepted) => met_named(if accepted { OPENED } else { OPEN_REFUSED }.into()),
         Last::Binding(0, made) => met_named(if made == 0 { MADE_NONE } else { MADE }.into()),
         Last::Binding(refusal, made) => note_refused(refusal, made, left),
+        Last::Change(0, _) => met_named(CHANGED.into()),
+        Last::Change(_, made) => met_named_if(made > 0, CHANGE_REFUSED),
         Last::Other => met_named_if(left < limits().nodes, OTHER),
     }
 }

@@ -3,16 +3,17 @@
 //! every byte of the machine as it was: that is more than the contracts say, which speak of what the bytes mean. A written file
 //! must open another machine, and that one must have the same hint and write the same file.
 //!
-//! C gets the tables as a map without bindings, and a binding as its bytes. Every value that a list can hold can be said so:
-//! one that is out of its range is refused with 1 when it is read, and a count that is too large before what it counts.
+//! C gets the tables as a map without bindings, a binding as its bytes, and a change as its map file. Every value that a list can
+//! hold can be said so: one that is out of its range is refused with 1 when it is read, and a count that is too large before
+//! what it counts.
 
 use crate::bytes::put_number;
-use crate::calllist::{bytes_of_item, differing, Item, Room};
+use crate::calllist::{bytes_of_item, differing, file_in, Item, Room};
 use crate::calls::{Call, Tables};
 use crate::graph::limits;
 use crate::machine::Machine;
-use crate::mapfile::{binding_refusal, bindings_of, tables_refusal};
-use crate::met::{expect_all, met_named};
+use crate::mapfile::{binding_refusal, bindings_of, map_refusal, tables_refusal};
+use crate::met::{expect_all, expect_named, met_named};
 use crate::writing::{file_of, hexadecimal};
 
 /// A count over it is refused.
@@ -25,9 +26,14 @@ const LARGE: &str = "C: repeat_over with a count over 65,535, refused";
 const PASSED: &str = "C: a key whose count would pass 65,535, refused 12";
 const AGAIN: &str = "C: a written file opens a machine that has the same hint and writes it again";
 const ONE_MORE: &str = "C: a file of 1,024 bindings and one more, refused 11";
+const CHANGED: &str = "C: an accepted change, after which the machine writes the file that it was given";
+const NO_CHANGE: &str = "C: a change to what is no map file, refused";
+const TO_A_FILE: &str = "C: a change to the map of a run";
 
 pub fn expect_calls() {
-    expect_all(&[CALLS, KEPT, DAMAGED, LARGE, PASSED, AGAIN, ONE_MORE]);
+    let answers = [1, 2, 3, 4, 9, 11].map(|n| format!("refused {n}")).into_iter().chain(["ok".into()]);
+    answers.for_each(|answer| expect_named(format!("{TO_A_FILE}: {answer}")));
+    expect_all(&[CALLS, KEPT, DAMAGED, LARGE, PASSED, AGAIN, ONE_MORE, CHANGED, NO_CHANGE]);
 }
 
 /// How the machine differs from the lines, if it does.
@@ -35,12 +41,36 @@ pub fn difference(calls: &[(Item, String)]) -> Option<String> {
     play(calls).err()
 }
 
-fn play(calls: &[(Item, String)]) -> Result<(), String> {
+/// How a change to a map file, whole or damaged, differs from what is read in it, if it does.
+pub fn change_difference(map: &[u8]) -> Option<String> {
+    change_to(map).err()
+}
+
+fn change_to(map: &[u8]) -> Result<(), String> {
+    let mut machine = opened()?;
+    let must = map_refusal(map).map_or("ok".into(), |n| format!("refused {n}"));
+    holds(&mut machine, "the change to a map file", &must, |m| settled(m.change(map)))?;
+    met_named(format!("{TO_A_FILE}: {must}"));
+    match must.as_str() {
+        "ok" => write_changed(&mut machine, map),
+        _ => Ok(()),
+    }
+}
+
+/// A list begins with empty tables, and C with an open.
+fn opened() -> Result<Machine, String> {
     let mut machine = Machine::lent();
-    // a list begins with empty tables, and C with an open
     holds(&mut machine, "the first open", "ok", |m| settled(m.open(&map_of(&Tables::default()))))?;
-    for (item, line) in calls.iter().filter(|(item, _)| has_function(item)) {
+    Ok(machine)
+}
+
+fn play(calls: &[(Item, String)]) -> Result<(), String> {
+    let mut machine = opened()?;
+    for (item, line) in calls {
         refuse_beside(&mut machine, item)?;
+        if !has_function(item) {
+            continue;
+        }
         let is = answered(&mut machine, item)?;
         if *line != is {
             return Err(format!("the lent machine at {item:?}: {}", differing(line, &is)));
@@ -49,8 +79,10 @@ fn play(calls: &[(Item, String)]) -> Result<(), String> {
         if is.starts_with("refused 12 ") {
             met_named(PASSED.into());
         }
-        if let Item::Write(Room::Of(room)) = item {
-            read_back(&mut machine, *room)?;
+        match item {
+            Item::Write(Room::Of(room)) => read_back(&mut machine, *room)?,
+            Item::Call(Call::Change(..)) if is.starts_with("ok") => write_changed(&mut machine, &changed_to(item))?,
+            _ => {},
         }
     }
     Ok(())
@@ -153,8 +185,8 @@ fn filed(machine: &mut Machine, room: usize) -> Told {
     told(words, true)
 }
 
-/// Where a file fits, another machine is opened with it, and must have the same hint and write the file again; and with one
-/// binding more than a machine keeps, it must be refused.
+/// Where a file fits, another machine is opened with it, and must have the same hint and write the file again, and once more
+/// after a change to it; and with one binding more than a machine keeps, it must be refused.
 fn read_back(machine: &mut Machine, room: usize) -> Result<(), String> {
     let Ok(file) = written(machine, room) else { return Ok(()) };
     let mut other = Machine::lent();
@@ -163,6 +195,8 @@ fn read_back(machine: &mut Machine, room: usize) -> Result<(), String> {
     holds(&mut other, "the open of a written file", "ok", |m| settled(m.open(&file)))?;
     holds(&mut other, "the hint after the open of a written file", &left, |m| free(m.free()))?;
     holds(&mut other, "the write of an opened file", &again, |m| filed(m, file.len()))?;
+    holds(&mut other, "the change to the same file", "ok", |m| settled(m.change(&file)))?;
+    holds(&mut other, "the write after that change", &again, |m| filed(m, file.len()))?;
     met_named(AGAIN.into());
     let (tables, mut bindings) = bindings_of(&file).expect("the file is the model's, which can be read");
     if bindings.len() < limits().kept {
@@ -171,7 +205,20 @@ fn read_back(machine: &mut Machine, room: usize) -> Result<(), String> {
     bindings.push(Call::Prefix(0, vec![], None));
     met_named(ONE_MORE.into());
     let longer = file_of(&tables, &bindings);
-    holds(machine, "the open of a file of too many bindings", "refused 11", |m| settled(m.open(&longer)))
+    holds(machine, "the open of a file of too many bindings", "refused 11", |m| settled(m.open(&longer)))?;
+    holds(machine, "the change to such a file", "refused 11", |m| settled(m.change(&longer)))
+}
+
+/// After an accepted change the machine writes the file that it was given.
+fn write_changed(machine: &mut Machine, file: &[u8]) -> Result<(), String> {
+    met_named(CHANGED.into());
+    let must = format!("file {}", hexadecimal(file));
+    holds(machine, "the write after a change", &must, |m| filed(m, file.len()))
+}
+
+/// The map file of a change.
+fn changed_to(item: &Item) -> Vec<u8> {
+    file_in(item).expect("a change has a map file")
 }
 
 // ---- calls
@@ -188,6 +235,7 @@ fn called(machine: &mut Machine, item: &Item) -> Told {
         Item::Hint => free(machine.free()),
         Item::Write(Room::Of(room)) => filed(machine, *room),
         Item::Write(_) => unreachable!("a list that was played has each room as a number"),
+        Item::Call(Call::Change(..)) | Item::OddChange(_) => settled(machine.change(&changed_to(item))),
         // a binding that is whole, has an odd kind or flag, or ends early
         Item::Call(Call::Map(..) | Call::Prefix(..)) | Item::Unknown(_) | Item::Malformed(_) => {
             settled(machine.bind(&bytes_of_item(item)))
@@ -239,6 +287,8 @@ fn refuse_beside(machine: &mut Machine, item: &Item) -> Result<(), String> {
         Item::Call(Call::Map(..) | Call::Prefix(..)) => {
             refuse_damaged(machine, bytes_of_item(item), binding_refusal, Machine::bind)
         },
+        Item::Call(Call::Change(..)) => refuse_damaged(machine, changed_to(item), map_refusal, Machine::change),
+        Item::Malformed(_) => file_in(item).map_or(Ok(()), |file| refuse_change(machine, &file)),
         Item::Call(Call::Repeat(sequence, over)) => {
             let over = over.unwrap_or_default();
             let count = LARGEST + 1 + over.count as u32;
@@ -248,6 +298,14 @@ fn refuse_beside(machine: &mut Machine, item: &Item) -> Result<(), String> {
         },
         _ => Ok(()),
     }
+}
+
+/// A change that `callplay` cannot read. A file is read in an order of its own, so the number may be another.
+fn refuse_change(machine: &mut Machine, file: &[u8]) -> Result<(), String> {
+    let must = map_refusal(file).expect("such bytes are no map file");
+    met_named(NO_CHANGE.into());
+    let name = format!("a change to the bytes {file:02X?}");
+    holds(machine, &name, &format!("refused {must}"), |m| settled(m.change(file)))
 }
 
 /// The bytes without the last of them, and with a number more.

@@ -23,6 +23,7 @@ functions! {
     fn keymap_find(machine: *const u64, mode: u16, action: u16) -> u64;
     fn keymap_free(machine: *const u64) -> u64;
     fn keymap_write(machine: *const u64, output: *mut u8, output_count: usize) -> u64;
+    fn keymap_change(machine: *mut u64, map: *const u8, map_count: usize) -> u64;
 }
 
 const HEADER: &str = include_str!("../../include/keymap.h");
@@ -107,6 +108,10 @@ impl Machine {
 
     pub fn free(&mut self) -> u64 {
         unsafe { keymap_free(self.words.as_mut_ptr()) }
+    }
+
+    pub fn change(&mut self, map: &[u8]) -> u64 {
+        unsafe { keymap_change(self.words.as_mut_ptr(), map.as_ptr(), map.len()) }
     }
 
     pub fn write(&mut self, output: &mut [u8]) -> u64 {

@@ -7,8 +7,11 @@ mod archive;
 mod bytes;
 mod calllist;
 mod calls;
+mod carried;
 mod cases;
 mod chains;
+mod changes;
+mod changing;
 mod contest;
 mod differences;
 mod edges;
@@ -28,6 +31,7 @@ mod record;
 mod scenes;
 mod shrink;
 mod status;
+mod walk;
 mod writing;
 
 use std::io::Read;
@@ -50,9 +54,10 @@ compare keyplay                      what `keyplay` prints for standard input
 compare run FOLDER SECONDS FIRST     random lists and runs from seed FIRST on, against the programs in FOLDER and the archive
 compare seed FOLDER SEED             one of these again
 compare record calls|runs FOLDER     the recorded lists or runs: writes stdin and stdout there
-KIND is usual, plain, long or big, or counts, which is the scenes of counts that pass their limit. SORT is a kind; or runs, or
-keyplay; for many also lists, which is what `compare run` plays; for rows also reader, which is plain lists on the list reader,
-and graphs and files, which are nodes and edges, and the map file, after the bindings of usual lists";
+KIND is usual, plain, long or big; or counts, which is the scenes of counts that pass their limit; or changes, which is scenes of
+changes of map. SORT is a kind; or runs, or keyplay; for many also lists, which is what `compare run` plays; for rows also reader,
+which is plain lists on the list reader, and graphs and files, which are nodes and edges, and the map file, after the bindings and
+changes of usual lists";
 
 fn main() {
     let words: Vec<String> = std::env::args().skip(1).collect();
@@ -99,7 +104,9 @@ fn number(word: &str) -> u64 {
 fn list_of(seed: u64, kind: &str) -> Vec<Call> {
     let kind = match kind {
         "counts" => return scenes::counting_of(seed),
+        "changes" => return changing::changing_of(seed),
         "usual" => Kind::Usual,
+        "plain" | "reader" if seed % 4 == 0 => return changing::plain_of(seed),
         "plain" | "reader" => Kind::Plain,
         "long" => Kind::Long,
         "big" => Kind::Big,

@@ -2,6 +2,8 @@
 
 use crate::bytes::put_number;
 use crate::calls::{Answer, Call, ClassEntry, Event, ModeEntry, Pair, Part, Repeat, Rule, Step, Tables};
+use crate::graph::{limits, Graph};
+use crate::met::aside;
 use crate::play::Both;
 
 /// Why a run ended: refused by a number, or because model and original differ.
@@ -190,6 +192,25 @@ pub fn bindings_of(map: &[u8]) -> Option<(Tables, Vec<Call>)> {
     let count = reader.number().ok()?;
     let bindings = (0..count).map(|_| reader.binding().ok()).collect::<Option<Vec<Call>>>()?;
     reader.at_end().then_some((tables, bindings))
+}
+
+/// Why a map cannot be read, if it cannot.
+pub fn map_refusal(map: &[u8]) -> Option<u16> {
+    refusal_of(aside(|| judge_map(map)))
+}
+
+/// What a map is refused with, in the order in which it is read: a binding after its last number.
+fn judge_map(map: &[u8]) -> Read<()> {
+    let mut reader = Reader::new(map);
+    reader.tables()?;
+    let (mut graph, count) = (Graph::fresh(), reader.number()?);
+    for at in 0..count as usize {
+        graph.bind(&reader.binding()?).map_err(Stop::Refused)?;
+        if at == limits().kept {
+            return refused(11);
+        }
+    }
+    reader.ended()
 }
 
 /// Why a map that has no binding cannot be read, if it cannot.

@@ -141,9 +141,9 @@ fn counting(count: impl FnOnce(&mut Counts)) {
 
 /// Work of which nothing is counted: what would come of something else.
 pub fn aside<T>(work: impl FnOnce() -> T) -> T {
-    ASIDE.set(true);
+    let was = ASIDE.replace(true);
     let done = work();
-    ASIDE.set(false);
+    ASIDE.set(was);
     done
 }
 

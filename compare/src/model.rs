@@ -8,8 +8,10 @@ use std::rc::Rc;
 use crate::calls::{
     binding_valid, decompose, digit_of, tables_valid, Answer, Call, Context, Event, Pair, Step, Tables,
 };
+use crate::carried::{Carried, Sequence};
 use crate::graph::{limits, Follow, Graph, NodeAction, NodeId, Outcome};
 use crate::met::{aside, met, met_if, met_which, stacked, Met};
+use crate::walk::walk;
 use crate::writing::file_of;
 
 const MOST_QUEUED: usize = 256;
@@ -100,8 +102,15 @@ pub struct Model {
     queue: VecDeque<Pair>,
     trail: Vec<u16>,
     sequences: HashMap<u16, Tracker>,
-    /// For the counts alone: how many nodes the work of the last call but a pop had made when it ended, refused or not.
-    made: usize,
+    /// For the counts alone.
+    ended: Ended,
+}
+
+/// How many nodes beside the roots and kept calls there were when the work of the last call but a pop ended, refused or not.
+#[derive(Clone, Copy, Default)]
+pub struct Ended {
+    pub nodes: usize,
+    pub kept: usize,
 }
 
 impl Model {
@@ -116,7 +125,7 @@ impl Model {
             queue: VecDeque::new(),
             trail: vec![],
             sequences: HashMap::new(),
-            made: 0,
+            ended: Ended::default(),
         }
     }
 
@@ -146,8 +155,32 @@ impl Model {
         &self.graph
     }
 
-    pub fn made(&self) -> usize {
-        self.made
+    pub fn tables(&self) -> &Tables {
+        &self.tables
+    }
+
+    pub fn place(&self) -> NodeId {
+        self.curr
+    }
+
+    pub fn ended(&self) -> Ended {
+        self.ended
+    }
+
+    /// What passes over to a new map.
+    pub fn carried(&self) -> Carried {
+        let sequence = |(&number, t): (&u16, &Tracker)| Sequence {
+            number,
+            pairs: t.sequence.clone(),
+            is_broken: t.sequence_break,
+        };
+        Carried {
+            mode: self.mode,
+            context: self.context,
+            queue: self.queue(),
+            trail: self.trail.clone(),
+            sequences: self.sequences.iter().map(sequence).collect(),
+        }
     }
 
     // ---- the map file
@@ -159,6 +192,10 @@ impl Model {
 
     pub fn keeps(&self) -> usize {
         self.kept.len()
+    }
+
+    pub fn kept(&self) -> Vec<Call> {
+        self.kept.iter().map(|call| Call::clone(call)).collect()
     }
 
     /// Whether a fresh machine with these tables and bindings equals this one in its tables, bindings and kept calls.
@@ -431,7 +468,7 @@ impl Model {
         match call {
             Call::Key { key, budget } => self.key(*key, *budget),
             Call::Pop => self.queue.pop_front().map_or(Answer::Nothing, Answer::Pair),
-            _ => match self.tried(|m| m.change(call)) {
+            _ => match self.tried(|m| m.perform(call)) {
                 Ok(()) => Answer::Accepted,
                 Err(n) => Answer::Refused(n),
             },
@@ -473,23 +510,29 @@ impl Model {
         aside(|| other.try_key(key, &mut vec![], &mut Rounds::within(1)))
     }
 
-    fn change(&mut self, call: &Call) -> Outcome<()> {
+    fn perform(&mut self, call: &Call) -> Outcome<()> {
         match call {
             Call::Open(t) if !tables_valid(t) => Err(1),
             Call::Open(t) => {
                 *self = Model::fresh(t.clone());
                 Ok(())
             },
-            Call::Map(mode, path, step) if !binding_valid(*mode, path, Some(step)) => Err(1),
-            Call::Prefix(mode, path, step) if !binding_valid(*mode, path, step.as_ref()) => Err(1),
-            Call::Map(..) | Call::Prefix(..) => {
-                self.graph.bind(call)?;
-                self.keep(call)
-            },
+            Call::Map(..) | Call::Prefix(..) => self.bind(call),
             Call::Repeat(sequence, over) => self.repeat(*sequence, *over),
             Call::Reset => self.reset_mode(),
+            Call::Change(tables, bindings) => self.change(tables, bindings),
             Call::Key { .. } | Call::Pop => unreachable!("these have answers of their own"),
         }
+    }
+
+    fn bind(&mut self, call: &Call) -> Outcome<()> {
+        match call {
+            Call::Map(mode, path, step) if !binding_valid(*mode, path, Some(step)) => return Err(1),
+            Call::Prefix(mode, path, step) if !binding_valid(*mode, path, step.as_ref()) => return Err(1),
+            _ => {},
+        }
+        self.graph.bind(call)?;
+        self.keep(call)
     }
 
     fn keep(&mut self, call: &Call) -> Outcome<()> {
@@ -501,14 +544,38 @@ impl Model {
         Ok(())
     }
 
+    /// A new map: the tables as at open and then the bindings in their order. Queue, sequences, mode and context stay.
+    fn change(&mut self, tables: &Tables, bindings: &[Call]) -> Outcome<()> {
+        (self.graph, self.kept) = (Graph::fresh(), vec![]);
+        if !tables_valid(tables) {
+            return Err(1);
+        }
+        self.tables = tables.clone();
+        bindings.iter().try_for_each(|b| self.bind(b))?;
+        self.resume();
+        Ok(())
+    }
+
+    /// The trail in a new map, from the root of the entered mode.
+    fn resume(&mut self) {
+        let root = self.mode as NodeId;
+        match walk(&self.graph, &self.tables, root, &self.trail).end {
+            Ok(place) => self.curr = place,
+            Err(_) => {
+                self.curr = root;
+                self.trail.clear();
+            },
+        }
+    }
+
     fn tried(&mut self, work: impl FnOnce(&mut Model) -> Outcome<()>) -> Outcome<()> {
         let before = self.clone();
         let outcome = work(self);
-        let made = self.graph.size().0.saturating_sub(before.graph.size().0);
+        let ended = Ended { nodes: self.graph.size().0, kept: self.kept.len() };
         if outcome.is_err() {
             *self = before;
         }
-        self.made = made;
+        self.ended = ended;
         outcome
     }
 }

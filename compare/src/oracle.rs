@@ -2,6 +2,10 @@
 //! The traits pass no tables along, so those of the machine at work stand in a thread's own variable. So does the count of
 //! rounds, which the original does not keep: the traits' functions that `follow_edge` and what comes after it call tell. And so
 //! does the round in which a count first passed 65,535: the original's event hook cannot refuse.
+//!
+//! The original cannot change its map. After a change it is made anew with the new one, and what passes over is brought about on
+//! it by a key that no list has, at which the instance does what it is told. Whether a key of the trail needs more is seen on the
+//! original too, with an event hook that does nothing.
 
 use std::cell::{Cell, RefCell};
 use std::panic::{catch_unwind, resume_unwind, set_hook, take_hook, AssertUnwindSafe};
@@ -12,6 +16,7 @@ use keybindings::{
 };
 
 use crate::calls::{self, Call, Event, Pair, Part, Repeat, Tables};
+use crate::carried::{Carried, Told};
 use crate::status::status_of;
 
 thread_local! {
@@ -67,29 +72,79 @@ fn cut_in_round() {
     ROUNDS.set(Rounds { cut: r.cut.or(Some(r.made)), ..r });
 }
 
+// ---- what the instance goes by
+
+#[derive(Clone)]
+enum By {
+    Tables,
+    /// The tables, but the event hook does nothing, and a step that is to run or a key that is unmapped ends the work.
+    Following,
+    /// The first edge ends the work: is it that of a root for the key that no list has?
+    Asking,
+    /// What is told, whatever the tables say.
+    Told(Told),
+}
+
+thread_local! {
+    static BY: RefCell<By> = const { RefCell::new(By::Tables) };
+    /// Whether the key that was followed last came to a flagged step.
+    static AT_FLAGGED: Cell<bool> = const { Cell::new(false) };
+}
+
+struct NeedsNoMore;
+
+struct AtRoot(bool);
+
+/// Work on the original by something else than the tables alone, and what is thrown out of it.
+fn by<T>(what: By, work: impl FnOnce() -> T) -> std::thread::Result<T> {
+    BY.set(what);
+    let done = catch_unwind(AssertUnwindSafe(work));
+    BY.set(By::Tables);
+    done
+}
+
+fn told() -> Option<Told> {
+    BY.with_borrow(|by| if let By::Told(told) = by { Some(told.clone()) } else { None })
+}
+
+/// A step is to run, or a key is unmapped.
+fn stop_following() {
+    match BY.with_borrow(By::clone) {
+        By::Following => resume_unwind(Box::new(NeedsNoMore)),
+        By::Asking => resume_unwind(Box::new(AtRoot(false))),
+        By::Tables | By::Told(_) => {},
+    }
+}
+
 // A call of `follow_edge` is told of by
 // - `event` alone, where it takes a Key edge;
 // - `memberships`, where the node has edges but none for the key itself, then by `event`, if it takes a Class or Any edge;
 // - `decompose` alone, where the node has no edges. Such a node holds a step that ran, so `step` came between. A root
-//   without edges would be the exception: `Oracle::with` gives every root one that no key takes.
+//   without edges would be the exception: `Oracle::empty` gives every root one that no key of a list takes.
 // `decompose` also follows the other two, in the same round.
 
 // ---- the instance
 
 #[derive(Clone, Copy, Debug, Eq, Hash, PartialEq)]
-pub struct TableKey(u16);
+pub enum TableKey {
+    Of(u16),
+    /// The key that no list has.
+    Own,
+}
 
 impl InputKey for TableKey {
     type Error = ();
 
     fn decompose(&mut self) -> Option<Self> {
+        stop_following();
         if !ROUNDS.get().open {
             begin_round();
         }
         end_round();
-        let (first, rest) = calls::decompose(self.0)?;
-        self.0 = rest;
-        Some(TableKey(first))
+        let TableKey::Of(key) = *self else { return None };
+        let (first, rest) = calls::decompose(key)?;
+        *self = TableKey::Of(rest);
+        Some(TableKey::Of(first))
     }
 
     fn from_macro_str(_: &str) -> Result<Vec<Self>, ()> {
@@ -104,10 +159,16 @@ impl InputKey for TableKey {
 #[derive(Clone, Debug, Eq, Hash, PartialEq)]
 pub struct TableClass(u16);
 
+/// The class of the key that no list has. Every root has an edge for it.
+const OWN: TableClass = TableClass(u16::MAX);
+
 impl InputKeyClass<TableKey> for TableClass {
     fn memberships(key: &TableKey) -> Vec<Self> {
         begin_round();
-        with_tables(|t| t.memberships(key.0)).into_iter().map(TableClass).collect()
+        match key {
+            TableKey::Of(key) => with_tables(|t| t.memberships(*key)).into_iter().map(TableClass).collect(),
+            TableKey::Own => vec![OWN],
+        }
     }
 }
 
@@ -133,16 +194,26 @@ impl InputState for TableState {
 
 impl InputKeyState<TableKey, TableClass> for TableState {
     fn event(&mut self, event: &EdgeEvent<TableKey, TableClass>, key: &TableKey) {
-        match (event, calls::digit_of(key.0)) {
-            (EdgeEvent::Key(_), _) => begin_round(),
-            (EdgeEvent::Class(TableClass(0)), Some(digit)) => self.count(digit),
-            (EdgeEvent::Any, _) => self.0.mark = key.0,
+        if matches!(event, EdgeEvent::Key(_)) {
+            begin_round();
+        }
+        match (BY.with_borrow(By::clone), key) {
+            (By::Tables, TableKey::Of(key)) => self.take_event(event, *key),
+            (By::Asking, _) => resume_unwind(Box::new(AtRoot(*event == EdgeEvent::Class(OWN)))),
             _ => {},
         }
     }
 }
 
 impl TableState {
+    fn take_event(&mut self, event: &EdgeEvent<TableKey, TableClass>, key: u16) {
+        match (event, calls::digit_of(key)) {
+            (EdgeEvent::Class(TableClass(0)), Some(digit)) => self.count(digit),
+            (EdgeEvent::Any, _) => self.0.mark = key,
+            _ => {},
+        }
+    }
+
     /// Document 01's count, which is cut at 65,535. Document 02 refuses such a key, request (iv), and a hook of the original
     /// cannot. So the instance tells the round, and `play.rs` holds the model to it and takes the key back.
     fn count(&mut self, digit: u16) {
@@ -159,6 +230,9 @@ pub struct TableMode(u16);
 
 impl Mode<u16, TableState> for TableMode {
     fn enter(&self, _: Self, _: &mut TableState) -> Vec<u16> {
+        if told().is_some() {
+            return vec![];
+        }
         with_tables(|t| t.mode(self.0).enter)
     }
 }
@@ -175,7 +249,7 @@ pub struct TableSequence(u16);
 
 impl ModeSequence<TableSequence, u16, TableState> for TableMode {
     fn sequences(&self, action: &u16, _: &calls::Context) -> Vec<(TableSequence, SequenceStatus)> {
-        let rules = with_tables(|t| t.sequences(self.0, *action));
+        let rules = told().map_or_else(|| with_tables(|t| t.sequences(self.0, *action)), |told| told.statuses);
         rules.into_iter().map(|(s, status)| (TableSequence(s), status_of(status))).collect()
     }
 }
@@ -191,6 +265,7 @@ impl Step<TableKey> for TableStep {
     type Sequence = TableSequence;
 
     fn is_unmapped(&self) -> bool {
+        AT_FLAGGED.set(self.0.flag);
         self.0.flag
     }
 
@@ -199,7 +274,12 @@ impl Step<TableKey> for TableStep {
     }
 
     fn step(&self, state: &mut TableState) -> (Vec<u16>, Option<TableMode>) {
+        stop_following();
         end_round();
+        if let Some(told) = told() {
+            state.0 = told.pair.map_or(state.0, |p| p.context);
+            return (told.pair.iter().map(|p| p.action).collect(), told.next.map(TableMode));
+        }
         if let Some(mark) = self.0.mark {
             state.0.mark = mark;
         }
@@ -221,7 +301,7 @@ fn repeat_of(repeat: Repeat) -> EdgeRepeat {
 
 fn event_of(event: Event) -> EdgeEvent<TableKey, TableClass> {
     match event {
-        Event::Key(k) => EdgeEvent::Key(TableKey(k)),
+        Event::Key(k) => EdgeEvent::Key(TableKey::Of(k)),
         Event::Class(c) => EdgeEvent::Class(TableClass(c)),
         Event::Any => EdgeEvent::Any,
         Event::Fallthrough => EdgeEvent::Fallthrough,
@@ -234,8 +314,16 @@ fn event_of(event: Event) -> EdgeEvent<TableKey, TableClass> {
 /// anew from these.
 pub struct Oracle {
     machine: ModalMachine<TableKey, TableStep>,
-    tables: Tables,
+    start: Start,
     done: Vec<Call>,
+}
+
+/// An open with tables, or a change to tables and bindings with what it has carried over.
+#[derive(Clone, Default)]
+struct Start {
+    tables: Tables,
+    bindings: Vec<Call>,
+    carried: Carried,
 }
 
 /// The rounds that a key made, and the first of them in which its count was cut.
@@ -263,22 +351,26 @@ fn quietly<T>(work: impl FnOnce() -> T) -> T {
 
 impl Oracle {
     pub fn fresh() -> Self {
-        Oracle::with(Tables::default())
+        Oracle::empty(Start::default())
     }
 
-    fn with(tables: Tables) -> Self {
+    fn opened(tables: &Tables) -> Self {
+        Oracle::empty(Start { tables: tables.clone(), ..Start::default() })
+    }
+
+    fn empty(start: Start) -> Self {
         let mut machine = ModalMachine::empty();
         for mode in 0..16 {
-            let never = (EdgeRepeat::Once, EdgeEvent::Class(TableClass(u16::MAX)));
-            machine.add_mapping(TableMode(mode), &[never], &TableStep(calls::Step::default()));
+            let own = (EdgeRepeat::Once, EdgeEvent::Class(OWN));
+            machine.add_mapping(TableMode(mode), &[own], &TableStep(calls::Step::default()));
         }
-        Oracle { machine, tables, done: vec![] }
+        Oracle { machine, start, done: vec![] }
     }
 
     /// A call that document 01 accepts. The pair is what a pop gave.
     pub fn accept(&mut self, call: &Call) -> Result<Option<Pair>, String> {
         if let Call::Open(tables) = call {
-            *self = Oracle::with(tables.clone());
+            *self = Oracle::opened(tables);
             return Ok(None);
         }
         self.done.push(call.clone());
@@ -289,7 +381,7 @@ impl Oracle {
     /// A call that document 01 may refuse, on the original as it stands: what came of it stays.
     pub fn attempt(&mut self, call: &Call) -> Attempt {
         if let Call::Open(tables) = call {
-            *self = Oracle::with(tables.clone());
+            *self = Oracle::opened(tables);
             return Attempt::Done(None);
         }
         match quietly(|| catch_unwind(AssertUnwindSafe(|| self.perform(call)))) {
@@ -308,7 +400,7 @@ impl Oracle {
     /// What the original makes of a key in so many rounds at most, unless it panics.
     pub fn makes(&mut self, most: u32, key: u16) -> Option<Made> {
         ROUNDS.set(Rounds::within(most));
-        let thrown = catch_unwind(AssertUnwindSafe(|| self.machine_with_tables().input_key(TableKey(key)))).err();
+        let thrown = catch_unwind(AssertUnwindSafe(|| self.machine_with_tables().input_key(TableKey::Of(key)))).err();
         let made = self.made();
         self.again();
         thrown.is_none_or(|t| t.is::<OverBudget>()).then_some(made)
@@ -324,7 +416,7 @@ impl Oracle {
 
     /// The machine made anew from the calls that were accepted.
     fn again(&mut self) {
-        let mut fresh = Oracle::with(self.tables.clone());
+        let mut fresh = Oracle::begun(self.start.clone());
         for call in &self.done {
             fresh.perform(call);
         }
@@ -335,14 +427,14 @@ impl Oracle {
     fn perform(&mut self, call: &Call) -> Option<Pair> {
         let m = self.machine_with_tables();
         match call {
-            Call::Open(_) => unreachable!("open makes a new machine"),
+            Call::Open(_) | Call::Change(..) => unreachable!("open and change make a new machine"),
             Call::Map(mode, path, step) => m.add_mapping(TableMode(*mode), &path_of(path), &TableStep(step.clone())),
             Call::Prefix(mode, path, step) => {
                 m.add_prefix(TableMode(*mode), &path_of(path), &step.clone().map(TableStep));
             },
             Call::Key { key, .. } => {
                 ROUNDS.set(Rounds::within(MOST_ROUNDS));
-                m.input_key(TableKey(*key));
+                m.input_key(TableKey::Of(*key));
             },
             Call::Pop => return m.pop().map(|(action, context)| Pair { action, context }),
             Call::Repeat(sequence, over) => m.repeat(TableSequence(*sequence), *over),
@@ -352,7 +444,7 @@ impl Oracle {
     }
 
     fn machine_with_tables(&mut self) -> &mut ModalMachine<TableKey, TableStep> {
-        TABLES.with(|t| t.replace(self.tables.clone()));
+        TABLES.with(|t| t.replace(self.start.tables.clone()));
         &mut self.machine
     }
 
@@ -362,5 +454,95 @@ impl Oracle {
 
     pub fn context(&mut self) -> calls::Context {
         self.machine.state().0
+    }
+}
+
+// ---- a change of map
+
+impl Oracle {
+    /// The original with a new map and with what passes over. The trail is that of the old map, and stays where it can be walked:
+    /// whether it does.
+    pub fn changed(tables: &Tables, bindings: &[Call], carried: Carried) -> Result<(Self, bool), String> {
+        let mut start = Start { tables: tables.clone(), bindings: bindings.to_vec(), carried };
+        let made = quietly(|| {
+            catch_unwind(AssertUnwindSafe(|| {
+                let is_kept = start.walks();
+                if !is_kept {
+                    start.carried.trail.clear();
+                }
+                (Oracle::begun(start), is_kept)
+            }))
+        });
+        made.map_err(|_| "the original panics at an accepted change".into())
+    }
+
+    /// Whether the original panics at the last of a change's bindings, and at none before it.
+    pub fn panics_in(bindings: &[Call]) -> bool {
+        let mut original = Oracle::fresh();
+        let Some((last, others)) = bindings.split_last() else { return false };
+        let made = |b| catch_unwind(AssertUnwindSafe(|| original.perform(b))).is_ok();
+        quietly(|| others.iter().all(made)) && original.panics_at(last)
+    }
+
+    /// The machine at its start, before any call.
+    fn begun(start: Start) -> Self {
+        let Start { bindings, carried, .. } = start.clone();
+        let mut original = Oracle::empty(start);
+        for binding in &bindings {
+            original.perform(binding);
+        }
+        carried.entered().into_iter().for_each(|told| original.tell(told));
+        original.empty_queue();
+        carried.waiting().into_iter().for_each(|told| original.tell(told));
+        original.machine.state().0 = carried.context;
+        let kept = carried.trail.iter().all(|&key| original.follows(key));
+        assert!(kept, "a key of a trail that is kept does not need more");
+        original
+    }
+
+    /// A step that does what is told.
+    fn tell(&mut self, told: Told) {
+        ROUNDS.set(Rounds::within(MOST_ROUNDS));
+        let done = by(By::Told(told), || self.machine_with_tables().input_key(TableKey::Own));
+        assert!(done.is_ok(), "the original panics at a key that every root has an edge for");
+    }
+
+    /// Tries a key in one round. Whether it went by a successor, no step ran, and it was not unmapped.
+    fn follows(&mut self, key: u16) -> bool {
+        ROUNDS.set(Rounds::within(1));
+        AT_FLAGGED.set(false);
+        by(By::Following, || self.machine_with_tables().input_key(TableKey::Of(key))).is_ok()
+    }
+
+    /// Whether a key needs more. It is consumed where it comes to a root that holds no step, and a step would be a flagged one.
+    fn needs_more(mut self, key: u16) -> bool {
+        self.follows(key) && (AT_FLAGGED.get() || !self.is_at_root())
+    }
+
+    fn is_at_root(mut self) -> bool {
+        ROUNDS.set(Rounds::within(1));
+        let thrown = by(By::Asking, || self.machine_with_tables().input_key(TableKey::Own)).err();
+        thrown.is_some_and(|t| t.downcast_ref::<AtRoot>().is_some_and(|at| at.0))
+    }
+
+    pub fn empty_queue(&mut self) -> Vec<Pair> {
+        std::iter::from_fn(|| self.machine.pop()).map(|(action, context)| Pair { action, context }).collect()
+    }
+
+    /// What a sequence remembers, where no pair waits.
+    pub fn remembered(&mut self, sequence: u16) -> Vec<Pair> {
+        self.machine.repeat(TableSequence(sequence), None);
+        self.empty_queue()
+    }
+}
+
+impl Start {
+    /// Whether each key of the trail needs more.
+    fn walks(&self) -> bool {
+        let Carried { mode, trail, .. } = &self.carried;
+        trail.iter().enumerate().all(|(at, &key)| {
+            let carried = Carried { mode: *mode, trail: trail[..at].to_vec(), ..Carried::default() };
+            Oracle::begun(Start { carried, ..self.clone() }).needs_more(key)
+        })
     }
 }

@@ -1,7 +1,9 @@
 //! One list of calls on the model and on the original at once. The model gives the refusals; every call that it accepts
 //! goes to the original too, and both must then show the same and have made the same rounds.
 
-use crate::calls::{Answer, Call, Context, Pair};
+use crate::calls::{Answer, Call, Context, Pair, Tables};
+use crate::carried::Carried;
+use crate::changes::{self, Old};
 use crate::graph::limits;
 use crate::hints::Last;
 use crate::met::{expect_named, met_named};
@@ -22,11 +24,13 @@ pub struct Both {
     pub model: Model,
     original: Oracle,
     last: Last,
+    is_changed: bool,
 }
 
 impl Both {
     pub fn fresh() -> Self {
-        Both { model: Model::fresh(Default::default()), original: Oracle::fresh(), last: Last::Other }
+        let (model, original) = (Model::fresh(Tables::default()), Oracle::fresh());
+        Both { model, original, last: Last::Other, is_changed: false }
     }
 
     /// The last call.
@@ -34,17 +38,31 @@ impl Both {
         self.last
     }
 
+    /// Whether a change brought the map.
+    pub fn is_changed(&self) -> bool {
+        self.is_changed
+    }
+
     /// The answer and what is seen, or how model and original differ.
     pub fn call(&mut self, call: &Call) -> Result<Seen, String> {
         let (full, nodes) = (self.model.keeps() == limits().kept, self.model.graph().size().0);
+        let old =
+            matches!(call, Call::Change(..)).then(|| Old { model: self.model.clone(), is_changed: self.is_changed });
         let answer = self.model.call(call);
-        self.last = Last::of(call, answer, nodes, self.model.made());
+        self.last = Last::of(call, answer, nodes, self.model.ended().nodes);
         self.last.is_possible()?;
         met_named(format!("{}: {}", name_of(call), answer_kind(answer)));
         if full && matches!(call, Call::Map(..) | Call::Prefix(..)) {
             met_named(format!("{KEPT_FULL}: {}", answer_kind(answer)));
         }
-        self.follow(call, answer)?;
+        match (call, old) {
+            (Call::Change(tables, bindings), Some(old)) => {
+                self.follow_change(&old.model, tables, bindings, answer)?;
+                changes::note(&old, tables, bindings, answer, &self.model);
+            },
+            _ => self.follow(call, answer)?,
+        }
+        self.note_changed(call, answer);
         let (mode, context) = (self.model.mode(), self.model.context());
         if (mode, context) != (self.original.mode(), self.original.context()) {
             return Err(format!(
@@ -94,6 +112,61 @@ impl Both {
     }
 }
 
+// ---- a change of map, which the original lacks
+
+impl Both {
+    /// Refused, the original stays as it is, and for 4 another must panic at the binding. Accepted, it must have the pairs that
+    /// the model had; then it is made anew with the new map and what passes over, and must keep the trail where the model does.
+    fn follow_change(&mut self, old: &Model, tables: &Tables, bindings: &[Call], answer: Answer) -> Result<(), String> {
+        match answer {
+            Answer::Refused(4) if !Oracle::panics_in(&bindings[..=self.model.ended().kept]) => {
+                Err("no panic at the binding by which a change is refused".into())
+            },
+            Answer::Refused(_) => Ok(()),
+            _ => self.change_original(old.carried(), tables, bindings),
+        }
+    }
+
+    fn change_original(&mut self, carried: Carried, tables: &Tables, bindings: &[Call]) -> Result<(), String> {
+        let queue = self.original.empty_queue();
+        if queue != carried.queue {
+            return Err(format!(
+                "before a change {queue:?} wait in the original, and in the model {:?}",
+                carried.queue
+            ));
+        }
+        for sequence in &carried.sequences {
+            let pairs = self.original.remembered(sequence.number);
+            if pairs != sequence.pairs {
+                return Err(format!(
+                    "before a change the original remembers {pairs:?} of sequence {}, and the model {:?}",
+                    sequence.number, sequence.pairs
+                ));
+            }
+        }
+        let trail = carried.trail.clone();
+        let (original, is_kept) = Oracle::changed(tables, bindings, carried)?;
+        self.original = original;
+        let kept = if is_kept { &trail[..] } else { &[] };
+        if kept != self.model.trail() {
+            return Err(format!(
+                "of the trail {trail:?} the original keeps {kept:?}, the model {:?}",
+                self.model.trail()
+            ));
+        }
+        Ok(())
+    }
+
+    fn note_changed(&mut self, call: &Call, answer: Answer) {
+        match (call, answer) {
+            (Call::Open(_), Answer::Accepted) => self.is_changed = false,
+            (Call::Change(..), Answer::Accepted) => self.is_changed = true,
+            (Call::Map(..) | Call::Prefix(..), _) if self.is_changed => changes::note_binding(answer),
+            _ => {},
+        }
+    }
+}
+
 fn pair_of(answer: Answer) -> Option<Pair> {
     match answer {
         Answer::Pair(p) => Some(p),
@@ -126,10 +199,10 @@ pub fn play(list: &[Call]) -> Result<Played, String> {
     Ok(played)
 }
 
-/// The open and binding calls of a list, and the model that they leave: the original's nodes and edges cannot be seen, and it
-/// has no map file.
+/// The open, binding and change calls of a list, and the model that they leave: the original's nodes and edges cannot be seen, and
+/// it has no map file.
 pub fn build(list: &[Call]) -> Result<(Vec<Call>, Model), String> {
-    let is_binding = |c: &&Call| matches!(c, Call::Open(_) | Call::Map(..) | Call::Prefix(..));
+    let is_binding = |c: &&Call| matches!(c, Call::Open(_) | Call::Map(..) | Call::Prefix(..) | Call::Change(..));
     let calls: Vec<Call> = list.iter().filter(is_binding).cloned().collect();
     let mut both = Both::fresh();
     for call in &calls {
@@ -158,13 +231,14 @@ const KEPT_FULL: &str = "a binding where 1,024 calls are kept";
 
 /// The answers that a report shows even when they are never met.
 pub fn expect_answers() {
-    let refusals: [(&str, &[u16]); 6] = [
+    let refusals: [(&str, &[u16]); 7] = [
         ("open", &[1]),
         ("map", &[1, 2, 3, 4, 11]),
         ("prefix", &[1, 2, 3, 11]),
         ("key", &[5, 6, 7, 8, 12]),
         ("repeat", &[1, 5]),
         ("reset", &[5, 6]),
+        ("change", &[1, 2, 3, 4, 11]),
     ];
     for (call, numbers) in refusals {
         expect_named(format!("{call}: accepted"));
@@ -182,6 +256,7 @@ fn name_of(call: &Call) -> &'static str {
         Call::Pop => "pop",
         Call::Repeat(..) => "repeat",
         Call::Reset => "reset",
+        Call::Change(..) => "change",
     }
 }
 

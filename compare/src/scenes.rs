@@ -2,14 +2,15 @@
 //! modes, repeats of parts at their ends, edges of one node and of nodes on one chain, numbers of every length in a map file, and
 //! each limit reached exactly and passed by one.
 
-use crate::calllist::{Item, List, Room};
+use crate::calllist::{Item, List, OddChange, Room};
 use crate::calls::{Call, ClassEntry, Context, Event, ModeEntry, Part, Repeat, Rule, Step, Tables};
 use crate::chains;
+use crate::changing::{self, with_changes};
 use crate::gen::{with_digits, Gen, Kind, Random};
 use crate::graph::Graph;
 use crate::writing::file_of;
 
-type Scene = fn(&mut Gen) -> Vec<Call>;
+pub type Scene = fn(&mut Gen) -> Vec<Call>;
 
 const SCENES: [Scene; 22] = [
     overrides,
@@ -52,15 +53,21 @@ pub fn counting_of(seed: u64) -> Vec<Call> {
 pub fn calls_of(seed: u64) -> Vec<Call> {
     let mut g = Gen::new(seed, Kind::Usual);
     let (which, scene) = (g.random.below(100), g.random.below(SCENES.len() as u64));
-    if which <= 1 {
-        return g.random.pick(&LONG_SCENES)(&mut g);
-    }
     let mut other = |kind| Gen::new(g.random.next(), kind).list();
     match which {
-        2..=49 => SCENES[scene as usize](&mut g),
-        50..=74 => other(Kind::Usual),
-        75..=84 => other(Kind::Plain),
-        85..=94 => other(Kind::Long),
+        0..=1 => one_of(&mut g, &LONG_SCENES)(&mut g),
+        2..=3 => one_of(&mut g, &changing::LONG_SCENES)(&mut g),
+        4..=43 => {
+            let calls = SCENES[scene as usize](&mut g);
+            if g.random.chance(15) {
+                return with_changes(&mut g, calls);
+            }
+            calls
+        },
+        44..=57 => one_of(&mut g, &changing::SCENES)(&mut g),
+        58..=78 => other(Kind::Usual),
+        79..=86 => other(Kind::Plain),
+        87..=95 => other(Kind::Long),
         _ => other(Kind::Big),
     }
 }
@@ -78,7 +85,9 @@ pub fn list_of(seed: u64) -> List {
         if g.random.chance(often) {
             list.push(beside(&mut g));
         }
-        list.push(Item::Call(writable(call)));
+        let call = writable(call);
+        list.extend(odd_change(&mut g, &call));
+        list.push(Item::Call(call));
     }
     list.extend(finds);
     if is_long {
@@ -97,15 +106,15 @@ pub fn list_of(seed: u64) -> List {
 /// So many items at a list's end are where a full machine meets what is too much.
 const LAST: usize = 40;
 
-/// The list with hints right before and right after a share of its opens and bindings, a larger one at its end, and most of all
-/// at that of a long list. All else is as without them.
+/// The list with hints right before and right after a share of its opens, bindings and changes, a larger one at its end, and most
+/// of all at that of a long list. All else is as without them.
 fn with_hints(seed: u64, list: List) -> List {
     let mut random = Random::from_seed(!seed);
     let last = list.len().saturating_sub(LAST);
     let late = if last > 200 { 60 } else { 30 };
     let mut hinted = vec![];
     for (at, item) in list.into_iter().enumerate() {
-        let asked = is_binding_or_open(&item) && random.chance(if at < last { 2 } else { late });
+        let asked = is_of_the_map(&item) && random.chance(if at < last { 2 } else { late });
         if asked && hinted.last() != Some(&Item::Hint) {
             hinted.push(Item::Hint);
         }
@@ -117,8 +126,8 @@ fn with_hints(seed: u64, list: List) -> List {
     hinted
 }
 
-fn is_binding_or_open(item: &Item) -> bool {
-    matches!(item, Item::Call(Call::Open(_) | Call::Map(..) | Call::Prefix(..)))
+fn is_of_the_map(item: &Item) -> bool {
+    matches!(item, Item::Call(Call::Open(_) | Call::Map(..) | Call::Prefix(..) | Call::Change(..)))
 }
 
 fn beside(g: &mut Gen) -> Item {
@@ -128,6 +137,18 @@ fn beside(g: &mut Gen) -> Item {
         6..=7 => Item::Write(room(g)),
         _ => Item::Unknown(unknown(g)),
     }
+}
+
+/// Now and then, before a change, the same with an odd binding among its own, of which one may be refused before it.
+fn odd_change(g: &mut Gen, change: &Call) -> Option<Item> {
+    let Call::Change(tables, bindings) = change else { return None };
+    let count = bindings.len();
+    if !g.random.chance(if count > 1000 { 80 } else { 20 }) {
+        return None;
+    }
+    let at = if g.random.chance(70) { count } else { g.random.below(count as u64 + 1) as usize };
+    let (before, behind) = (bindings[..at].to_vec(), bindings[at..].to_vec());
+    Some(Item::OddChange(OddChange { tables: tables.clone(), before, odd: unknown(g), behind }))
 }
 
 /// Finds of actions that bindings of the list have, most of them in their modes; and of action 0.
@@ -146,9 +167,10 @@ fn finds(g: &mut Gen, calls: &[Call]) -> List {
     (0..1 + g.random.below(8)).map(|_| some(g)).collect()
 }
 
-/// The actions of a binding's step, with its mode.
+/// The actions of a binding's step, with its mode; in a change of all of them.
 fn bound_actions(call: &Call) -> Vec<(u16, u16)> {
     match call {
+        Call::Change(_, bindings) => bindings.iter().flat_map(bound_actions).collect(),
         Call::Map(mode, _, step) | Call::Prefix(mode, _, Some(step)) => {
             step.actions.iter().map(|&a| (*mode, a)).collect()
         },
@@ -183,8 +205,16 @@ fn unknown(g: &mut Gen) -> Vec<u32> {
 /// A kind of call that there is not, an override that is neither 0 nor 1, a number in a longer form or over 65,535, an early
 /// end.
 fn malformed(g: &mut Gen) -> Vec<u8> {
-    let ways: [&[u8]; 9] = [
+    let ways: [&[u8]; 16] = [
+        &[11],
+        // a change: its end or a number that is none, and a kind of binding that there is not, behind one that is refused too
         &[10],
+        &[10, 0, 0, 0],
+        &[10, 0, 0, 0, 1],
+        &[10, 0, 0, 0, 1, 3, 0, 0],
+        &[10, 17, 0, 0, 1],
+        &[10, 0, 0, 0, 2, 1, 16, 0, 3, 0, 0],
+        &[10, 0, 0, 0, 2, 1, 16, 0, 1, 0x80, 0],
         &[0xFF, 0xFF, 3],
         &[5, 0, 2],
         &[0x84, 0],
@@ -202,6 +232,9 @@ fn malformed(g: &mut Gen) -> Vec<u8> {
 
 /// The call in a form that can be written as numbers: a mark of 0 means none there, and mode 65,535 has no number.
 fn writable(mut call: Call) -> Call {
+    if let Call::Change(_, bindings) = &mut call {
+        *bindings = std::mem::take(bindings).into_iter().map(writable).collect();
+    }
     let fit = |s: &mut Step| {
         s.mark = s.mark.filter(|&m| m != 0);
         s.next = s.next.map(|m| m.min(65_534));
@@ -216,23 +249,23 @@ fn writable(mut call: Call) -> Call {
 
 // ---- words
 
-fn once(event: Event) -> Part {
+pub fn once(event: Event) -> Part {
     Part { repeat: Repeat::Once, event }
 }
 
-fn path(keys: &[u16]) -> Vec<Part> {
+pub fn path(keys: &[u16]) -> Vec<Part> {
     keys.iter().map(|&k| once(Event::Key(k))).collect()
 }
 
-fn does(action: u16) -> Step {
+pub fn does(action: u16) -> Step {
     Step { actions: vec![action], ..Step::default() }
 }
 
-fn press(key: u16) -> Call {
+pub fn press(key: u16) -> Call {
     Call::Key { key, budget: 1000 }
 }
 
-fn presses(keys: &[u16]) -> Vec<Call> {
+pub fn presses(keys: &[u16]) -> Vec<Call> {
     keys.iter().map(|&k| press(k)).collect()
 }
 
@@ -240,20 +273,20 @@ fn track(sequence: u16) -> Rule {
     Rule { mode: 0, low: 0, high: 65_535, sequence, status: 4 }
 }
 
-fn one_of<'a, T>(g: &mut Gen, items: &'a [T]) -> &'a T {
+pub fn one_of<'a, T>(g: &mut Gen, items: &'a [T]) -> &'a T {
     &items[g.random.below(items.len() as u64) as usize]
 }
 
-fn some_keys(g: &mut Gen, most: u64) -> Vec<u16> {
+pub fn some_keys(g: &mut Gen, most: u64) -> Vec<u16> {
     (0..1 + g.random.below(most)).map(|_| g.key()).collect()
 }
 
 /// A number near an edge: at most two off.
-fn about(g: &mut Gen, n: u64) -> usize {
+pub fn about(g: &mut Gen, n: u64) -> usize {
     (n + g.random.below(5) - 2) as usize
 }
 
-fn usual(g: &mut Gen, times: u64) -> Vec<Call> {
+pub fn usual(g: &mut Gen, times: u64) -> Vec<Call> {
     (0..times).flat_map(|_| g.calls()).collect()
 }
 
@@ -630,18 +663,18 @@ fn few_actions(g: &mut Gen) -> Vec<Call> {
 // ---- full graphs
 
 /// Bindings over keys of their own that leave so many nodes and edges unused, as near as can be.
-struct Fill {
-    graph: Graph,
-    calls: Vec<Call>,
+pub struct Fill {
+    pub graph: Graph,
+    pub calls: Vec<Call>,
     next_key: u16,
 }
 
 impl Fill {
-    fn new() -> Self {
+    pub fn new() -> Self {
         Fill { graph: Graph::fresh(), calls: vec![], next_key: 1000 }
     }
 
-    fn add(&mut self, call: Call) {
+    pub fn add(&mut self, call: Call) {
         let _ = self.graph.bind(&call);
         self.calls.push(call);
     }
@@ -652,7 +685,7 @@ impl Fill {
     }
 
     /// So many nodes, with two edges for each (Max) or about one (Min).
-    fn nodes(&mut self, g: &mut Gen, nodes: usize, with_max: bool) {
+    pub fn nodes(&mut self, g: &mut Gen, nodes: usize, with_max: bool) {
         let mode = g.mode();
         let mut left = nodes;
         while left > 0 {
@@ -684,7 +717,7 @@ impl Fill {
     }
 
     /// A binding of so many keys that makes a node for each.
-    fn of_keys(&mut self, g: &mut Gen, keys: usize) -> Call {
+    pub fn of_keys(&mut self, g: &mut Gen, keys: usize) -> Call {
         let way = (0..keys).map(|_| once(self.fresh_key())).collect();
         let (mode, step) = (g.mode(), g.step());
         if g.random.chance(50) {
@@ -695,7 +728,7 @@ impl Fill {
     }
 
     /// So many edges and no node.
-    fn edges(&mut self, g: &mut Gen, edges: usize) {
+    pub fn edges(&mut self, g: &mut Gen, edges: usize) {
         let mode = g.mode();
         for _ in 0..edges {
             let event = self.fresh_key();
@@ -970,7 +1003,7 @@ fn numbers_at_edges(g: &mut Gen) -> Vec<Call> {
 // ---- kept calls
 
 /// A binding of no part: it makes no node and no edge, and is kept.
-fn empty_binding(g: &mut Gen, short: bool) -> Call {
+pub fn empty_binding(g: &mut Gen, short: bool) -> Call {
     match g.random.below(3) {
         _ if short => Call::Prefix(g.random.small(16), vec![], None),
         0 => Call::Prefix(g.random.small(16), vec![], None),
@@ -980,14 +1013,14 @@ fn empty_binding(g: &mut Gen, short: bool) -> Call {
 }
 
 /// So many kept calls beside those that are there, most of them of no part.
-fn fill_kept(g: &mut Gen, calls: &mut Vec<Call>, kept: usize) {
+pub fn fill_kept(g: &mut Gen, calls: &mut Vec<Call>, kept: usize) {
     let short = g.random.chance(60);
     calls.extend((0..kept).map(|_| empty_binding(g, short)));
 }
 
 /// Bindings of every outcome: 11 where all calls are kept, else accepted; and 1 and 4, which are met before 11. The last makes
 /// two nodes where there is room.
-fn late_bindings(g: &mut Gen) -> Vec<Call> {
+pub fn late_bindings(g: &mut Gen) -> Vec<Call> {
     let refused = |g: &mut Gen| match g.random.below(4) {
         0 => Call::Map(16, vec![], does(1)),
         1 => Call::Prefix(0, vec![Part { repeat: Repeat::Min(256), event: Event::Any }], None),
@@ -1009,7 +1042,7 @@ fn late_bindings(g: &mut Gen) -> Vec<Call> {
 }
 
 /// A step that falls to mode 1.
-fn falling() -> Call {
+pub fn falling() -> Call {
     Call::Map(0, path(&[301]), Step { fallthrough: Some(1), ..Step::default() })
 }
 

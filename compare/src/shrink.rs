@@ -2,7 +2,7 @@
 
 use std::time::Instant;
 
-use crate::calllist::{Item, List, Room};
+use crate::calllist::{Item, List, OddChange, Room};
 use crate::calls::{Call, ClassEntry, Context, Event, ModeEntry, Part, Repeat, Rule, Step, Tables};
 use crate::cases::Case;
 use crate::mapfile;
@@ -197,6 +197,11 @@ fn smaller_call(call: &Call) -> Vec<Call> {
                 .collect(),
         ]
         .concat(),
+        Call::Change(tables, bindings) => [
+            fewer_or_lesser(bindings, smaller_call).into_iter().map(|b| Call::Change(tables.clone(), b)).collect(),
+            smaller_tables(tables).into_iter().map(|t| Call::Change(t, bindings.clone())).collect::<Vec<_>>(),
+        ]
+        .concat(),
         Call::Pop | Call::Reset => vec![],
     }
 }
@@ -217,8 +222,18 @@ fn smaller_item(item: &Item) -> Vec<Item> {
         ]
         .concat(),
         Item::Write(Room::Of(room)) => lesser_rooms(*room).into_iter().map(|n| Item::Write(Room::Of(n))).collect(),
+        Item::OddChange(change) => smaller_change(change).into_iter().map(Item::OddChange).collect(),
         Item::Hint | Item::Write(_) | Item::Unknown(_) | Item::Malformed(_) => vec![],
     }
+}
+
+fn smaller_change(c: &OddChange) -> Vec<OddChange> {
+    [
+        with(c, smaller_tables(&c.tables), |c, t| c.tables = t),
+        with(c, fewer_or_lesser(&c.before, smaller_call), |c, b| c.before = b),
+        with(c, fewer_or_lesser(&c.behind, smaller_call), |c, b| c.behind = b),
+    ]
+    .concat()
 }
 
 pub fn smaller_list(list: &List) -> Vec<List> {

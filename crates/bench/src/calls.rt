@@ -81,8 +81,8 @@ fn remembered() -> u16 {
     tracker.fetch(Some(Context { count: 5, mark: 6 })).1
 }
 
-// Every other call by value, once, for the stack that they use. The answer is the node of a mapping that was added, the
-// nodes that are left above it, and the pairs of a sequence above those.
+// Every other call by value but opening and changing, once, for the stack that they use. The answer is the node of a mapping
+// that was added, the nodes that are left above it, and the pairs of a sequence above those.
 pub fn bench_other_calls(bytes: &[u8]) -> u64 {
     let s = scanner_of(bytes);
     let (mapped, _) = s.bind(&mapping(3));
@@ -161,6 +161,17 @@ pub fn bench_resets(bytes: &[u8], times: u16) -> u64 {
     repeated(times, |_| {
         m = m.reset_mode().0;
         m.live.state.queued
+    })
+}
+
+// Changes to the map that the machine has, each from a place of its own: with no key on the trail it comes to a root.
+pub fn bench_changes(bytes: &[u8], times: u16) -> u64 {
+    let next = machine_of(bytes);
+    let mut m = next;
+    repeated(times, |_| {
+        m.live.state.place = 20;
+        m = m.change(next);
+        m.live.state.place
     })
 }
 

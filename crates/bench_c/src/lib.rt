@@ -67,6 +67,11 @@ pub extern "C" fn bench_resets(bytes: &[u8], times: u16) -> u64 {
 }
 
 #[unsafe(no_mangle)]
+pub extern "C" fn bench_changes(bytes: &[u8], times: u16) -> u64 {
+    bench::calls::bench_changes(bytes, times)
+}
+
+#[unsafe(no_mangle)]
 pub extern "C" fn bench_finds(bytes: &[u8], times: u16) -> u64 {
     bench::calls::bench_finds(bytes, times)
 }

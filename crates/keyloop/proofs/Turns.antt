@@ -17,7 +17,7 @@ use Rattle.keypairs.specs.View.{hooked}
 use Rattle.keyloop.specs.View.{link_navigator, turned}
 
 -- arriving and landing come to the node that was followed to, by the event that was gone by
-arrive_is : (g : g.Graph) (to : ℕ) (ev : Event) (a : NodeAction) → arrive g to ev a ≡ record { event = some ev; place = to; result = (arrive g to ev a).result }
+pub arrive_is : (g : g.Graph) (to : ℕ) (ev : Event) (a : NodeAction) → arrive g to ev a ≡ record { event = some ev; place = to; result = (arrive g to ev a).result }
 unfolding arrive
 arrive_is g to ev Empty = refl
 arrive_is g to ev Root = refl

@@ -15,8 +15,8 @@ use keyparts::index::IndexedGraph;
 use keyvalues::refusal::Refusal;
 use keyvalues::tables::TableWords;
 
-// What a key reads of a map. Any index will do: following goes as its links lead, and with those of an index of the graph as
-// the edges do.
+// What a key and a walk read of a map. Any index will do: following goes as its links lead, and with those of an index of the
+// graph as the edges do.
 #[derive(Clone, Copy)]
 pub struct IndexedMap<'a> {
     pub indexed: IndexedGraph<'a>,

@@ -1,9 +1,11 @@
-// The key loop: one round of a key, and the rounds that a key goes through until it is consumed, needs more, or is unmapped.
-// They are proved equal to the rules' round and `input_key`, by the views of specs/View.antt.
+// The key loop: one round of a key, and the rounds that a key goes through until it is consumed, needs more, or is unmapped; and
+// the walk along the trail in another map. They are proved equal to the rules' round, `input_key` and `resume`, by the views of
+// specs/View.antt.
 //
-// What a key reads of a map is lent to the functions here, and what it changes is changed in place, so that a key copies nothing.
+// What is read of a map is lent to the functions here, and what they change is changed in place, so that a key copies nothing.
 #![tactic(auto)]
 
 pub mod key;
+pub mod resume;
 mod stack;
 mod turn;

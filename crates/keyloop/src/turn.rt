@@ -1,6 +1,7 @@
 // One round: a following of the graph, the event hook, and what is to be done at the place come to.
 ghost use Rattle.std.specs.Prelude.{◌≡◌};
 ghost use Rattle.rules.specs.Values as v;
+ghost use Rattle.rules.specs.KeyLoop as key;
 ghost use Rattle.rules.specs.Calls as c;
 ghost use Rattle.keyvalues.specs.View.{told, node_of};
 ghost use Rattle.keyparts.specs.View.{graph_of};
@@ -27,9 +28,19 @@ pub enum InputResult {
     RetryAfter(Step),
 }
 
+impl InputResult {
+    // Is more needed?
+    #[tactic(auto, unfolding(rules::specs::KeyLoop::needs_more))]
+    pub(crate) fn needs_more(self) -> bool
+        ensures { result ≡ key.needs_more (result_by self) }
+    {
+        matches!(self, InputResult::NeedMore)
+    }
+}
+
 // A successor: a step, flagged or not, an empty node, a root.
 #[tactic(auto, unfolding(rules::specs::Calls::arrive, keyvalues::specs::View::node_of, keyvalues::specs::View::action_of, keyvalues::specs::View::step_of))]
-fn arrive(graph: &Graph, node: Node, to: u16) -> InputResult
+pub(crate) fn arrive(graph: &Graph, node: Node, to: u16) -> InputResult
     ensures { (ev : v.Event) → result_by result ≡ (c.arrive (graph_of graph.now) to ev (node_of node).action).result }
 {
     match node.action {

@@ -1,17 +1,18 @@
-// The calls that change the live state alone and may be refused in the midst of their work: they are made on a copy, which takes
-// the place of the live state when the call is accepted.
+// The calls that change the live state alone. A key and a reset may be refused in the midst of their work: they are made on a copy,
+// which takes the place of the live state when the call is accepted. The walk along the trail in another map is never refused.
 ghost use Rattle.std.specs.Prelude.{◌≡◌, List};
 ghost use Rattle.rules.specs.Values.{Binding};
 ghost use Rattle.rules.specs.Graph.{Graph as Bindings};
-ghost use Rattle.rules.specs.Calls.{graph_kind, call, Press, Reset};
+ghost use Rattle.rules.specs.KeyLoop as rules;
+ghost use Rattle.rules.specs.Calls.{graph_kind, graph_navigator, call, Press, Reset};
 ghost use Rattle.keyvalues.specs.View.{said_of};
 ghost use Rattle.keyparts.specs.View.{graph_of};
 ghost use Rattle.keytables.specs.View.{tables_of};
-ghost use Rattle.keypairs.specs.View.{machine_by};
+ghost use Rattle.keypairs.specs.View.{live_of, shared_of, machine_by};
 ghost use Rattle.keymachine.specs.View.{press_of};
 
-use keyloop::key;
 use keyloop::key::IndexedMap;
+use keyloop::{key, resume};
 use keypairs::live::Live;
 use keyparts::graph::Graph;
 use keyparts::index::{Index, IndexedGraph};
@@ -51,4 +52,15 @@ pub fn reset_mode(tables: &TableWords, live: &mut Live) -> Result<(), Refusal>
     entered.goto_mode_or_scratch(tables, 0)?;
     *live = entered;
     Ok(())
+}
+
+// The trail is walked in the map that takes the place of the one before it.
+pub fn resume<'a>(graph: &'a Graph, tables: &'a TableWords, live: &mut Live)
+    ensures { live_of (tables_of tables.now) live.new ≡ rules.resume (graph_navigator (graph_of graph.now)) (shared_of (tables_of tables.now) live.old) }
+{
+    let indexed = IndexedGraph {
+        graph,
+        index: &Index::new(graph),
+    };
+    resume::resume(&IndexedMap { indexed, tables }, live);
 }

@@ -1,8 +1,8 @@
-// The modal machine by value: each call takes a machine and hands back the machine after it, with the answer. A refused call
-// hands back the machine before it. What only reads is lent the machine.
+// The modal machine by value: each call takes a machine and hands back the machine after it, with the answer, but for a change,
+// which is never refused. A refused call hands back the machine before it. What only reads is lent the machine.
 ghost use Rattle.std.specs.Prelude.{◌≡◌, List};
 ghost use Rattle.rules.specs.Tables.{no_tables};
-ghost use Rattle.rules.specs.Calls.{graph_kind, call, fresh, mode_call, Open, Press, Pop, Repeats, Reset, find, hint};
+ghost use Rattle.rules.specs.Calls.{graph_kind, call, fresh, carry_over, mode_call, Open, Press, Pop, Repeats, Reset, find, hint};
 ghost use Rattle.keyvalues.specs.View.{told, maybe_of, said_of};
 ghost use Rattle.keyparts.specs.View.{graph_of};
 ghost use Rattle.keytables.specs.View.{whole_tables, tables_of};
@@ -92,6 +92,18 @@ impl ModalMachine {
     {
         let answer = self.live.repeat(sequence, over);
         (self, answer)
+    }
+
+    // The next machine, which was made as any is, with this one's live state in place of its own: the queue, the sequences, the
+    // entered mode and the context pass over, and the trail is walked in the new map.
+    #[tactic(auto, unfolding(rules::specs::Calls::carry_over))]
+    pub fn change(self, mut next: ModalMachine) -> ModalMachine
+        ensures { (ws ws₁ : List CallWords) → machine_of ws₁ result ≡ carry_over graph_kind (machine_of ws self) (machine_of ws₁ next) }
+    {
+        let m = &mut next;
+        m.live = self.live;
+        live::resume(&m.map.graph, &m.map.tables, &mut m.live);
+        next
     }
 
     // The entered mode.

@@ -1,4 +1,5 @@
--- A machine that is opened by a map; a binding that is read and then called; a repeat with any count; and a key's answer.
+-- A machine that is opened by a map, or changed to one; a binding that is read and then called; a repeat with any count; and a
+-- key's answer.
 use Rattle.std.specs.Prelude as Prelude
 use Rattle.std.specs.Prelude.{Ok, Err}
 use Prim.Native.Nat.{ℕ, ◌+◌, ◌*◌, ◌≤◌, ◌<◌}
@@ -10,12 +11,12 @@ use mathlib.Core.List.{List}
 use borrow.Author.Tests.{le-leb, lt-leb}
 use Rattle.rules.specs.Basics.{Result, accept, refuse, ◌>>=◌, unless}
 use Rattle.rules.specs.Values.{Binding}
-use Rattle.rules.specs.Calls.{Machine, graph_kind, bind, settled, repeat_call, call, Repeats, Answer, Accepted, Refused}
+use Rattle.rules.specs.Calls.{Machine, graph_kind, bind, carry_over, settled, repeat_call, call, Repeats, Answer, Accepted, Refused}
 use Rattle.rules.specs.MapFile.{read_binding, at_end, read_map}
 use Rattle.keyvalues.specs.declared.refusal.Refusal.{Refusal}
 use Rattle.keyvalues.specs.View.{said_of}
 use Rattle.keymachine.specs.View.{press_of}
-use Rattle.keymap.specs.Codes.{answer_code, open_map, bind_map, repeat_over}
+use Rattle.keymap.specs.Codes.{answer_code, open_map, change_map, bind_map, repeat_over}
 
 module _ (m : Machine graph_kind) (bs : List ℕ) where
   -- a map that is refused leaves the machine
@@ -27,6 +28,19 @@ module _ (m : Machine graph_kind) (bs : List ℕ) where
   pub accepted : (x : Machine graph_kind) → accept x ≡ read_map bs → (x, Accepted) ≡ open_map m bs
   unfolding settled
   accepted x e = ap (settled graph_kind m) e
+
+  abbrev carried : Result (Machine graph_kind) → Machine graph_kind × Answer
+  carried r = settled graph_kind m (r >>= λ next. accept (carry_over graph_kind m next))
+
+  -- the same of a change: refused, the machine stays
+  pub not_changed : (n : ℕ) → refuse n ≡ read_map bs → (m, Refused n) ≡ change_map m bs
+  unfolding settled
+  not_changed n e = ap carried e
+
+  -- accepted, it is carried over
+  pub changed : (x : Machine graph_kind) → accept x ≡ read_map bs → (carry_over graph_kind m x, Accepted) ≡ change_map m bs
+  unfolding settled
+  changed x e = ap carried e
 
   abbrev called : Result Binding → Result (Machine graph_kind)
   called r = r >>= λ x. bind graph_kind x m

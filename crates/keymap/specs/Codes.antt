@@ -4,7 +4,7 @@ use Rattle.std.specs.Prelude.{Ok, Err, ℕ, ◌+◌, ◌*◌, ◌≡◌, List, l
 use Rattle.std.proofs.Math.Option.{Option, none, some}
 use Rattle.rules.specs.Basics.{Result, accept, refuse, ◌>>=◌, unless}
 use Rattle.rules.specs.Values.{largest}
-use Rattle.rules.specs.Calls.{Machine, graph_kind, bind, settled, repeat_call, Answer, Accepted, Refused, Popped, Nothing, Pressed, PressRefused}
+use Rattle.rules.specs.Calls.{Machine, graph_kind, bind, carry_over, settled, repeat_call, Answer, Accepted, Refused, Popped, Nothing, Pressed, PressRefused}
 use Rattle.rules.specs.MapFile.{read_binding, at_end, read_map}
 use Rattle.keyvalues.specs.declared.refusal.Refusal.{Refusal}
 use Rattle.keyvalues.specs.View.{number_of}
@@ -41,6 +41,10 @@ find_code (accept (some node)) = (node + 1) * 32
 -- open by the bytes of a map file: the machine of the map, with its tables and its bindings; refused, the machine as it was
 abbrev pub open_map : Machine graph_kind → List ℕ → Machine graph_kind × Answer
 open_map m bytes = settled graph_kind m (read_map bytes)
+
+-- change by the bytes of a map file: it is refused as open refuses it, and else the machine's state is carried over to its map
+abbrev pub change_map : Machine graph_kind → List ℕ → Machine graph_kind × Answer
+change_map m bytes = settled graph_kind m (do next ← read_map bytes; accept (carry_over graph_kind m next))
 
 -- a binding that stands alone: it is read with nothing after it, and then called
 abbrev pub bind_alone : Machine graph_kind → List ℕ → Result (Machine graph_kind)

@@ -6,7 +6,7 @@ ghost use Rattle.rules.specs.Calls.{graph_kind, call, mode_call, Press, Pop, Rep
 ghost use Rattle.rules.specs.Run.{pair_bytes, run, answered};
 ghost use Rattle.rules.specs.Writing.{write_call};
 ghost use Rattle.keymachine.specs.View.{scanner_of};
-ghost use Rattle.keymap.specs.Codes.{coded, open_map, bind_map, repeat_over, find_code, scanner_bytes};
+ghost use Rattle.keymap.specs.Codes.{coded, open_map, change_map, bind_map, repeat_over, find_code, scanner_bytes};
 
 use crate::{codes, lent};
 use keymachine::scanner::Scanner;
@@ -24,6 +24,14 @@ pub fn keymap_open(m: &mut Scanner, map: &[u8]) -> u64
     ensures { (scanner_of m.new, result) ≡ coded (open_map (scanner_of m.old) map.now) }
 {
     codes::answer_code(lent::open_file(m, map))
+}
+
+// The map of a map file takes the place of the machine's own; the live state passes over, and its trail is walked in the new map.
+// Refused, the machine is as it was.
+pub fn keymap_change(m: &mut Scanner, map: &[u8]) -> u64
+    ensures { (scanner_of m.new, result) ≡ coded (change_map (scanner_of m.old) map.now) }
+{
+    codes::answer_code(lent::change_file(m, map))
 }
 
 // One binding more, in the map file's layout. Refused, the machine is as it was.

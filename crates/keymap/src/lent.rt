@@ -1,7 +1,7 @@
 // One scanner, lent to each call. Each function changes or looks at the part of it that its call is about, and a refused call
 // leaves the machine as it was.
 ghost use Rattle.std.specs.Prelude.{◌≡◌, ◌≤◌, min, length, IfOk};
-ghost use Rattle.rules.specs.Calls.{graph_kind, call, mode_call, bind, settled, Open, Press, Pop, Repeats, Reset, find, hint};
+ghost use Rattle.rules.specs.Calls.{graph_kind, call, mode_call, bind, carry_over, settled, Open, Press, Pop, Repeats, Reset, find, hint};
 ghost use Rattle.rules.specs.Writing.{write_call};
 ghost use Rattle.keyvalues.specs.View.{maybe_of, told, said_of};
 ghost use Rattle.keytables.specs.View.{whole_tables};
@@ -9,7 +9,8 @@ ghost use Rattle.keptcalls.specs.View.{binding_in};
 ghost use Rattle.keypairs.specs.View.{over_of, pop_of};
 ghost use Rattle.keymachine.specs.View.{scanner_of, press_of};
 ghost use Rattle.mapparts.specs.View.{length_code};
-ghost use Rattle.keymap.specs.Codes.{open_map, bind_map, repeat_over};
+ghost use Rattle.mapfile.specs.View.{map_of};
+ghost use Rattle.keymap.specs.Codes.{open_map, change_map, bind_map, repeat_over};
 
 use keptcalls::binding::Binding;
 use keptcalls::words;
@@ -46,6 +47,29 @@ pub fn open_file(m: &mut Scanner, map: &[u8]) -> Result<(), Refusal>
     file::read_map_or_scratch(map, &mut kept, &mut read)?;
     words::copy_calls(&mut m.kept, &kept, read.kept);
     m.machine = ModalMachine::over(read);
+    Ok(())
+}
+
+// Another map takes the place of the machine's own, with the binding calls that it kept. The queue, the sequences, the entered
+// mode and the context pass over, and the trail is walked in the new map.
+#[tactic(auto, unfolding(rules::specs::Calls::carry_over, rules::specs::Calls::fresh, rules::specs::KeyLoop::fresh_shared))]
+pub fn change(m: &mut Scanner, map: &Map, kept: &[CallWords; CallWords::KEPT as usize])
+    ensures { scanner_of m.new ≡ carry_over graph_kind (scanner_of m.old) (map_of kept.now map.now) }
+{
+    live::resume(&map.graph, &map.tables, &mut m.machine.live);
+    words::copy_calls(&mut m.kept, kept, map.kept);
+    m.machine.map = *map;
+}
+
+// The map of a map file, which is read whole before anything is changed.
+#[tactic(auto, using(crate::proofs::Numbers::not_changed, crate::proofs::Numbers::changed))]
+pub fn change_file(m: &mut Scanner, map: &[u8]) -> Result<(), Refusal>
+    ensures { (scanner_of m.new, said_of result) ≡ change_map (scanner_of m.old) map.now }
+{
+    let mut kept = [CallWords::EMPTY; CallWords::KEPT as usize];
+    let mut next = Map::fresh(TableWords::EMPTY);
+    file::read_map_or_scratch(map, &mut kept, &mut next)?;
+    change(m, &next, &kept);
     Ok(())
 }
 

@@ -7,7 +7,7 @@ ghost use Rattle.rules.specs.Calls.{graph_kind, call, mode_call, Press, Pop, Rep
 ghost use Rattle.rules.specs.Run.{pair_bytes, run, answered};
 ghost use Rattle.rules.specs.Writing.{write_call};
 ghost use Rattle.keymachine.specs.View.{scanner_of};
-ghost use Rattle.keymap.specs.Codes.{coded, open_map, bind_map, repeat_over, find_code, scanner_bytes};
+ghost use Rattle.keymap.specs.Codes.{coded, open_map, change_map, bind_map, repeat_over, find_code, scanner_bytes};
 
 use keymachine::scanner::Scanner;
 use keymap::firmware;
@@ -24,6 +24,13 @@ pub extern "C" fn keymap_open(m: &mut Scanner, map: &[u8]) -> u64
     ensures { (scanner_of m.new, result) ≡ coded (open_map (scanner_of m.old) map.now) }
 {
     firmware::keymap_open(m, map)
+}
+
+#[unsafe(no_mangle)]
+pub extern "C" fn keymap_change(m: &mut Scanner, map: &[u8]) -> u64
+    ensures { (scanner_of m.new, result) ≡ coded (change_map (scanner_of m.old) map.now) }
+{
+    firmware::keymap_change(m, map)
 }
 
 #[unsafe(no_mangle)]

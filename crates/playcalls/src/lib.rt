@@ -3,6 +3,7 @@
 #![tactic(auto)]
 
 mod call;
+mod change;
 mod file;
 mod list;
 mod path;

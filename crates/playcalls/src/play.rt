@@ -1,5 +1,6 @@
 // The calls, one after another, each on the machine that the one before left.
 use crate::call::Call;
+use crate::change::NewMap;
 use crate::{file, print, tables};
 use keptcalls::words::CallWords;
 use keymachine::machine::ModalMachine;
@@ -10,8 +11,15 @@ use mapparts::reader::Reader;
 use std::io;
 use std::io::Write;
 
+// Changes the map to the one that was made, unless that was refused.
+fn change(m: &mut Scanner, next: &NewMap, made: Result<(), Refusal>) -> Result<(), Refusal> {
+    made?;
+    lent::change(m, &next.map, &next.kept);
+    Ok(())
+}
+
 // Makes the call, and prints its answer.
-fn perform<W: Write>(out: &mut W, m: &mut Scanner, call: Call) -> io::Result<()> {
+fn perform<W: Write>(out: &mut W, m: &mut Scanner, next: &NewMap, call: Call) -> io::Result<()> {
     match call {
         Call::Bind(call) => print::settled(out, lent::bind(m, &call)),
         Call::Key { key, budget } => print::pressed(out, lent::input_key(m, key, budget)),
@@ -21,6 +29,7 @@ fn perform<W: Write>(out: &mut W, m: &mut Scanner, call: Call) -> io::Result<()>
         Call::Find { mode, action } => print::found(out, lent::find(m, mode, action)),
         Call::Hint => write!(out, "free {}", lent::free_nodes(m)),
         Call::Write { room } => file::print_file(out, m, room),
+        Call::Change(made) => print::settled(out, change(m, next, made)),
         Call::Unknown => print::refused(out, Refusal::OutOfRange),
     }
 }
@@ -28,14 +37,15 @@ fn perform<W: Write>(out: &mut W, m: &mut Scanner, call: Call) -> io::Result<()>
 // To the end of the input, or to the first call that is malformed. A call takes a byte at least, so there are no more calls
 // than bytes.
 fn play_calls<W: Write>(out: &mut W, input: &mut Reader, m: &mut Scanner) -> io::Result<()> {
+    let mut next = NewMap::fresh();
     for _ in 0..input.rest.len() {
         if input.rest.is_empty() {
             break;
         }
-        match Call::read(input) {
+        match Call::read(input, &mut next) {
             Err(refusal) => return print::refused_line(out, refusal),
             Ok(call) => {
-                perform(out, m, call)?;
+                perform(out, m, &next, call)?;
                 writeln!(out, " mode {}", lent::mode(m))?;
             }
         }

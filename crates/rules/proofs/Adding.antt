@@ -12,10 +12,10 @@ use lib.Dec.{T, leb, ltb}
 use lib.ListN.{length, get_or}
 use lib.Seq.{set-append_seam}
 use Rattle.rules.specs.Basics.{Result, accept, refuse, ◌>>=◌, unless, every, present, is_there}
-use Rattle.rules.specs.Values.{mode_count, most_nodes, most_edges, most_actions, is_mode, Event, Key, Class, Any, Fallthrough, same_event, Repeat, Once, Min, Max, Part, Step, path_valid, step_valid, map_valid}
+use Rattle.rules.specs.Values.{mode_count, most_nodes, most_edges, most_actions, is_mode, Event, Key, Class, Any, Fallthrough, same_event, Repeat, Once, Min, Max, Part, Step, path_valid, step_valid, map_valid, Maps}
 use Rattle.rules.specs.Graph.{NodeAction, Empty, Root, Holds, no_node, Graph, roots, fresh_graph, get_node, end_in, get_edge, add_node, settle, upsert_at, upsert_node, Cursor, cursor, edge_to, add_simple_step, add_repeat, go_on, add_intermediate, map_last, map_fall, map_path, add_mapping}
-use Rattle.rules.specs.Calls.{Map, graph_kind}
-use Rattle.rules.specs.ListReader.{Mapping, Place, place, same_place, is_among, note_all, openings, last_of, step_at, fall_at, further, mapping_of, map_list, list_kind, plain_part, plain}
+use Rattle.rules.specs.Calls.{graph_kind}
+use Rattle.rules.specs.ListReader.{Mapping, Place, place, same_place, is_among, note_all, openings, last_of, step_at, fall_at, further, mapping_of, map_list, list_kind, plain_part, plain_binding}
 use Rattle.rules.proofs.Tests.{by_cases, T_and, both_ways, or_r, lt_true, true_lt, there_is, eqb_same, place_same}
 use Rattle.rules.proofs.Simulation.{Both, both_accept, both_refuse, both_bind}
 use Rattle.rules.proofs.Places.{along, along_further, chain, number, no_root, root_number_lem, root_is, among_number, not_among, count_le, note_keeps, admit_one, admit, admit_count, openings_snoc, changed, step_snoc, fall_snoc}
@@ -176,9 +176,9 @@ step_parts s v =
 abbrev Represented : List Mapping → Cursor → List Place → Type 0
 Represented xs c ds = Represents c.graph ds (step_at xs) (fall_at xs)
 
-pub map_same : (mode : ℕ) (ps : List Part) (s : Step) → T (plain (Map mode ps s)) → T (map_valid mode ps s) → (g : Graph) (xs : List Mapping) → SameBindings g xs
+pub map_same : (mode : ℕ) (ps : List Part) (s : Step) → T (plain_binding (Maps mode ps s)) → T (map_valid mode ps s) → (g : Graph) (xs : List Mapping) → SameBindings g xs
     → Both (Grown graph_kind list_kind SameBindings SamePlace g xs) (add_mapping mode ps s g) (map_list mode ps s xs)
-unfolding plain every map_valid add_mapping map_path map_list mapping_of
+unfolding plain_binding every map_valid add_mapping map_path map_list mapping_of
 map_same mode [] s h v g xs H = both_accept (record { bindings = H; places = λ i q here. here })
 map_same mode (p ∷ ps) s h v g xs H = go (leb (length (openings ys)) most_nodes) added
   where

@@ -16,9 +16,10 @@ use Rattle.rules.proofs.Following.{agree}
 use Rattle.rules.proofs.Runs.{says_refused, Related, same_from_fresh, kept_from_fresh}
 
 -- The calls are those of `plain` (PlainCalls): each part of a mapping is a key, a class or any-key taken once, and there is no
--- prefix. All else is free: open at any time, values in and out of range, paths of any length, refused calls among the others,
--- and more mappings than the 1,024 that are kept. Each machine keeps its accepted mappings, those with an empty path too, and both
--- keep the same ones; so the list reader counts to 1,024 as the graph machine does, and refuses with 11 where that one does.
+-- prefix; so too among the bindings of a change of map. All else is free: open and change at any time, values in and out of range,
+-- paths of any length, refused calls among the others, and more mappings than the 1,024 that are kept. Each machine keeps its accepted
+-- mappings, those with an empty path too, and both keep the same ones; so the list reader counts to 1,024 as the graph machine does,
+-- and refuses with 11 where that one does.
 
 -- The machines are `graph_kind` and `list_kind`: the graph represents the mappings, and the node has the place's number
 related : Related graph_kind list_kind SameBindings SamePlace

@@ -7,17 +7,17 @@ use mathlib.Core.Option.{none, some}
 use mathlib.Core.List.{List, [], ◌∷◌, ◌++◌, map}
 use lib.ListN.{replicate}
 use Rattle.rules.specs.Basics.{Result, accept, refuse, ◌>>=◌, open-Basics}
-use Rattle.rules.specs.Values.{Event, Key, Class, Any, Fallthrough, Min, Step, pair, open-Values}
+use Rattle.rules.specs.Values.{Event, Key, Class, Any, Fallthrough, Min, Part, Step, default_step, Binding, Maps, Prefixes, pair, open-Values}
 use Rattle.rules.specs.Tables.{ClassEntry, no_entry, Tables, no_tables, open-Tables}
 use Rattle.rules.specs.Graph.{Edge, Follow, Successor, FallsTo, NoSuccessor, open-Graph}
 use Rattle.rules.specs.OnePass.{better, open-OnePass}
 use Rattle.rules.specs.KeyLoop.{open-KeyLoop}
-use Rattle.rules.specs.Calls.{Call, Open, Map, Prefix, Pop, Repeats, Reset, Accepted, Refused, Nothing, PressRefused, graph_kind, fresh, leaves, open-Calls}
+use Rattle.rules.specs.Calls.{Call, Open, Map, Prefix, Pop, Repeats, Reset, Change, Accepted, Refused, Nothing, PressRefused, graph_kind, fresh, leaves, open-Calls}
 use Rattle.rules.specs.Numbers.{number, open-Numbers}
 use Rattle.rules.specs.MapFile.{read_map, open-MapFile}
 use Rattle.rules.specs.Run.{pair_bytes, run, code_of, output_of, keyplay, open-Run}
 use Rattle.rules.specs.Writing.{file_of, write_call, open-Writing}
-use Rattle.rules.proofs.Table.{◌⇒◌, once, one, two, does, key_within, key, rounds, gives, a, b, j, q, r, z, digits, tracking, doubles, Row, row, try_all, step_held, outcome}
+use Rattle.rules.proofs.Table.{Tried, ◌⇒◌, once, one, two, does, key_within, key, rounds, gives, a, b, j, k, q, r, z, digits, tracking, doubles, Row, row, try_all, step_held, outcome}
 
 -- ---- runs of calls
 
@@ -364,6 +364,353 @@ the_calls_that_are_kept = row (
     ∷ Map 0 [] (does 1) ⇒ Accepted
     ∷ []))
 
+-- ---- a change of map (document 02, request (vi))
+
+-- a step that gives action 0 and enters the mode, and one that gives nothing and from whose node keys fall to the mode
+abbrev pub enters : ℕ → Step
+enters m = record { flag = false; actions = []; next = some m; fallthrough = none; mark = none }
+
+abbrev pub falls_to : ℕ → Step
+falls_to m = record { flag = false; actions = []; next = none; fallthrough = some m; mark = none }
+
+abbrev pub three : Event → Event → Event → List Part
+three e f g = once e ∷ once f ∷ once g ∷ []
+
+-- j needs more in the old map and in the new one, whose jj the next j completes. The pair of q still waits, in front
+abbrev pub a_change_walks_the_trail : Row
+a_change_walks_the_trail = row (
+    doubles
+    ++ (key q ⇒ rounds 1
+    ∷ key j ⇒ rounds 1
+    ∷ Change no_tables (Maps 0 (two (Key j) (Key j)) (does 3) ∷ []) ⇒ Accepted
+    ∷ key j ⇒ rounds 1
+    ∷ Pop ⇒ gives 0 0 0
+    ∷ Pop ⇒ gives 3 0 0
+    ∷ Pop ⇒ Nothing
+    ∷ []))
+
+-- `doubles` as bindings
+abbrev pub the_same_map : List Binding
+the_same_map = Maps 0 (two (Key j) (Key j)) (does 1) ∷ Maps 0 (two (Key k) (Key k)) (does 2) ∷ []
+
+-- A reset goes to the root and keeps j on the trail. A change to the same map takes the place behind it, so j completes jj
+abbrev pub a_change_after_a_reset : Row
+a_change_after_a_reset = row (
+    doubles
+    ++ (key j ⇒ rounds 1
+    ∷ Reset ⇒ Accepted
+    ∷ Change no_tables the_same_map ⇒ Accepted
+    ∷ key j ⇒ rounds 1
+    ∷ Pop ⇒ gives 1 0 0
+    ∷ Pop ⇒ Nothing
+    ∷ []))
+
+-- The j before the reset and the one after it are both on the trail. On the walk the second would run the step, so both are lost,
+-- and jj takes two more
+abbrev pub a_trail_of_two_runs : Row
+a_trail_of_two_runs = row (
+    doubles
+    ++ (key j ⇒ rounds 1
+    ∷ Reset ⇒ Accepted
+    ∷ key j ⇒ rounds 1
+    ∷ Change no_tables the_same_map ⇒ Accepted
+    ∷ key j ⇒ rounds 1
+    ∷ Pop ⇒ Nothing
+    ∷ key j ⇒ rounds 1
+    ∷ Pop ⇒ gives 1 0 0
+    ∷ Pop ⇒ Nothing
+    ∷ []))
+
+-- a falls from the root and then needs more. On the walk of the same map it falls, and is lost: b, too, falls from the root again
+abbrev pub a_key_that_had_fallen : Row
+a_key_that_had_fallen = row (
+    Map 0 (record { repeat = Min 0; event = Key a } ∷ once (Key b) ∷ []) (does 1) ⇒ Accepted
+    ∷ key a ⇒ rounds 2
+    ∷ Change no_tables (Maps 0 (record { repeat = Min 0; event = Key a } ∷ once (Key b) ∷ []) (does 1) ∷ []) ⇒ Accepted
+    ∷ key b ⇒ rounds 2
+    ∷ Pop ⇒ gives 1 0 0
+    ∷ Pop ⇒ Nothing
+    ∷ [])
+
+-- a and b are on the trail, and the map is changed
+abbrev pub half_typed_then : List Binding → List Tried → Row
+half_typed_then xs ts = row (
+    Map 0 (three (Key a) (Key b) (Key j)) (does 1) ⇒ Accepted
+    ∷ key a ⇒ rounds 1
+    ∷ key b ⇒ rounds 1
+    ∷ Change no_tables xs ⇒ Accepted
+    ∷ ts)
+
+-- the trail is kept: at z a is given up, and b is tried again in the new map
+abbrev pub b_needs_more : Row
+b_needs_more = half_typed_then (Maps 0 (three (Key a) (Key b) (Key q)) (does 2) ∷ Maps 0 (one (Key b)) (does 3) ∷ []) (
+    key z ⇒ rounds 3
+    ∷ Pop ⇒ gives 0 0 0
+    ∷ Pop ⇒ gives 3 0 0
+    ∷ Pop ⇒ gives 0 0 0
+    ∷ Pop ⇒ Nothing
+    ∷ [])
+
+-- a flagged step with an edge needs more, as in a round
+abbrev pub b_comes_to_a_flag_with_edges : Row
+b_comes_to_a_flag_with_edges = half_typed_then (Maps 0 (two (Key a) (Key b)) (flagged 2) ∷ Maps 0 (three (Key a) (Key b) (Key j)) (does 3) ∷ []) (
+    key j ⇒ rounds 1
+    ∷ Pop ⇒ gives 3 0 0
+    ∷ Pop ⇒ Nothing
+    ∷ [])
+
+-- the place is the root and the trail is empty: a needs more there, and at q it alone is given up
+abbrev pub all_is_lost : List Tried
+all_is_lost = key a ⇒ rounds 1 ∷ key q ⇒ rounds 2 ∷ Pop ⇒ gives 0 0 0 ∷ Pop ⇒ gives 0 0 0 ∷ Pop ⇒ Nothing ∷ []
+
+-- all is lost where b would run a step, is consumed, has no edge, or comes to a flagged step without edges
+abbrev pub b_would_run_a_step : Row
+b_would_run_a_step = half_typed_then (Maps 0 (two (Key a) (Key b)) (does 2) ∷ []) all_is_lost
+
+abbrev pub b_is_consumed : Row
+b_is_consumed = half_typed_then (Prefixes 0 (two (Key a) (Key b)) none ∷ []) all_is_lost
+
+abbrev pub b_has_no_edge : Row
+b_has_no_edge = half_typed_then (Maps 0 (two (Key a) (Key z)) (does 2) ∷ []) all_is_lost
+
+abbrev pub b_comes_to_a_flag : Row
+b_comes_to_a_flag = half_typed_then (Maps 0 (two (Key a) (Key b)) (flagged 2) ∷ []) all_is_lost
+
+-- Likewise where b falls, as to a step. At the root q is unmapped at once; behind a it falls there too
+abbrev pub b_falls_to_a_step : Row
+b_falls_to_a_step = half_typed_then (Maps 0 (two (Key a) Fallthrough) (does 2) ∷ []) (
+    key q ⇒ rounds 1
+    ∷ Pop ⇒ gives 0 0 0
+    ∷ key a ⇒ rounds 1
+    ∷ key q ⇒ rounds 2
+    ∷ Pop ⇒ gives 2 0 0
+    ∷ Pop ⇒ gives 0 0 0
+    ∷ Pop ⇒ Nothing
+    ∷ [])
+
+-- where it falls to an empty node or to a root, from which it would need more: j is unmapped at the root, and gives no 2
+abbrev pub b_falls_to_a_node : Row
+b_falls_to_a_node = half_typed_then (Maps 0 (once (Key a) ∷ once Fallthrough ∷ once (Key b) ∷ once (Key j) ∷ []) (does 2) ∷ []) (
+    key j ⇒ rounds 1
+    ∷ Pop ⇒ gives 0 0 0
+    ∷ Pop ⇒ Nothing
+    ∷ [])
+
+abbrev pub b_falls_to_a_root : Row
+b_falls_to_a_root = half_typed_then (
+    Maps 0 (one (Key a)) (record { flag = true; actions = []; next = none; fallthrough = some 1; mark = none })
+    ∷ Maps 1 (two (Key b) (Key j)) (does 2)
+    ∷ []) (
+    key j ⇒ rounds 1
+    ∷ Pop ⇒ gives 0 0 0
+    ∷ Pop ⇒ Nothing
+    ∷ [])
+
+-- z enters mode 1. The trail is walked from the root of mode 1, and that root is the place where j is lost
+abbrev pub a_change_in_mode_1 : Row
+a_change_in_mode_1 = row (
+    Map 0 (one (Key z)) (enters 1) ⇒ Accepted
+    ∷ Map 1 (two (Key j) (Key b)) (does 5) ⇒ Accepted
+    ∷ key z ⇒ rounds 1
+    ∷ Pop ⇒ gives 0 0 0
+    ∷ key j ⇒ rounds 1
+    ∷ Change no_tables (Maps 0 (two (Key j) (Key b)) (does 4) ∷ Maps 1 (two (Key j) (Key b)) (does 6) ∷ []) ⇒ Accepted
+    ∷ key b ⇒ rounds 1
+    ∷ Pop ⇒ gives 6 0 0
+    ∷ key j ⇒ rounds 1
+    ∷ Change no_tables (Maps 0 (one (Key b)) (does 7) ∷ Maps 1 (one (Key b)) (does 8) ∷ []) ⇒ Accepted
+    ∷ key b ⇒ rounds 1
+    ∷ Pop ⇒ gives 8 0 0
+    ∷ Pop ⇒ Nothing
+    ∷ [])
+
+-- From a's node b falls to mode 1 and needs more there. Mode 0 is entered still, so b is walked there, and j gives 6 and not 5
+abbrev pub a_change_after_a_fallthrough : Row
+a_change_after_a_fallthrough =
+    let xs = Maps 0 (one (Key a)) (falls_to 1) ∷ Maps 0 (two (Key b) (Key j)) (does 6) ∷ Maps 1 (two (Key b) (Key j)) (does 5) ∷ [] in
+    row (
+    Change no_tables xs ⇒ Accepted
+    ∷ key a ⇒ rounds 1
+    ∷ key b ⇒ rounds 2
+    ∷ Change no_tables xs ⇒ Accepted
+    ∷ key j ⇒ rounds 1
+    ∷ Pop ⇒ gives 6 0 0
+    ∷ Pop ⇒ Nothing
+    ∷ [])
+
+-- A step without action leaves the place behind a, and no trail. A change to the same map goes to the root, where b is unmapped
+abbrev pub a_change_without_a_trail : Row
+a_change_without_a_trail =
+    let xs = Maps 0 (one (Key a)) default_step ∷ Maps 0 (two (Key a) (Key b)) (does 5) ∷ [] in
+    row (
+    Change no_tables xs ⇒ Accepted
+    ∷ key a ⇒ rounds 1
+    ∷ Change no_tables xs ⇒ Accepted
+    ∷ key b ⇒ rounds 1
+    ∷ Pop ⇒ gives 0 0 0
+    ∷ key a ⇒ rounds 1
+    ∷ key b ⇒ rounds 1
+    ∷ Pop ⇒ gives 5 0 0
+    ∷ Pop ⇒ Nothing
+    ∷ [])
+
+-- 5 counts and is consumed; of the trail j 4 q, 4 counts and q is the mark. By the new map's hooks 4 would count again and j would
+-- be the mark
+abbrev pub the_walk_runs_no_hook : Row
+the_walk_runs_no_hook = row (
+    Open digits ⇒ Accepted
+    ∷ Prefix 0 (one (Class 0)) none ⇒ Accepted
+    ∷ Map 0 (once (Key j) ∷ once (Class 0) ∷ once Any ∷ once (Key b) ∷ []) (does 1) ⇒ Accepted
+    ∷ key 53 ⇒ rounds 1
+    ∷ key j ⇒ rounds 1
+    ∷ key 52 ⇒ rounds 1
+    ∷ key q ⇒ rounds 1
+    ∷ Change digits (Maps 0 (once Any ∷ once (Class 0) ∷ once (Key q) ∷ once (Key b) ∷ []) (does 2) ∷ []) ⇒ Accepted
+    ∷ key b ⇒ rounds 1
+    ∷ Pop ⇒ gives 2 54 113
+    ∷ Pop ⇒ Nothing
+    ∷ [])
+
+-- with 65,535 counted, 5 goes by its Key edge onto the trail; on the walk it goes by class 0, and is no 12
+abbrev pub no_overflow_on_the_walk : Row
+no_overflow_on_the_walk = row (
+    Open digits ⇒ Accepted
+    ∷ Prefix 0 (one (Class 0)) none ⇒ Accepted
+    ∷ Map 0 (three (Key j) (Key 53) (Key b)) (does 1) ⇒ Accepted
+    ∷ key 54 ⇒ rounds 1
+    ∷ key 53 ⇒ rounds 1
+    ∷ key 53 ⇒ rounds 1
+    ∷ key 51 ⇒ rounds 1
+    ∷ key 53 ⇒ rounds 1
+    ∷ key j ⇒ rounds 1
+    ∷ key 53 ⇒ rounds 1
+    ∷ Change digits (Maps 0 (three (Key j) (Class 0) (Key b)) (does 2) ∷ []) ⇒ Accepted
+    ∷ key b ⇒ rounds 1
+    ∷ Pop ⇒ gives 2 65535 0
+    ∷ Pop ⇒ Nothing
+    ∷ [])
+
+-- 4 has no edge in the new map, so the trail is lost, and its count is not
+abbrev pub a_lost_digit_counts : Row
+a_lost_digit_counts = row (
+    Open digits ⇒ Accepted
+    ∷ Map 0 (two (Class 0) (Key j)) (does 1) ⇒ Accepted
+    ∷ key 52 ⇒ rounds 1
+    ∷ Change digits (Maps 0 (one (Key r)) (does 7) ∷ []) ⇒ Accepted
+    ∷ key r ⇒ rounds 1
+    ∷ Pop ⇒ gives 7 4 0
+    ∷ Pop ⇒ Nothing
+    ∷ [])
+
+-- 32,866 needs more as it stands, and is walked so. It is not walked as 27 and b, which an unmapped key of that number becomes
+abbrev pub a_walk_decomposes_no_key : Row
+a_walk_decomposes_no_key = row (
+    Map 0 (two (Key 32866) (Key j)) (does 1) ⇒ Accepted
+    ∷ key 32866 ⇒ rounds 1
+    ∷ Change no_tables (Maps 0 (two (Key 32866) (Key j)) (does 2) ∷ []) ⇒ Accepted
+    ∷ key j ⇒ rounds 1
+    ∷ Pop ⇒ gives 2 0 0
+    ∷ key 32866 ⇒ rounds 1
+    ∷ Change no_tables (Maps 0 (three (Key 27) (Key b) (Key j)) (does 3) ∷ []) ⇒ Accepted
+    ∷ key j ⇒ rounds 1
+    ∷ Pop ⇒ gives 0 0 0
+    ∷ Pop ⇒ Nothing
+    ∷ [])
+
+-- class c holds the key a alone
+abbrev pub a_in_class : ℕ → Tables
+a_in_class c = record { classes = record { class = c; low = a; high = a } ∷ []; modes = []; rules = [] }
+
+-- the new map has a path by either class, and in its tables a is in class 2
+abbrev pub the_classes_of_the_new_tables : Row
+the_classes_of_the_new_tables = row (
+    Open (a_in_class 1) ⇒ Accepted
+    ∷ Map 0 (two (Class 1) (Key j)) (does 1) ⇒ Accepted
+    ∷ key a ⇒ rounds 1
+    ∷ Change (a_in_class 2) (Maps 0 (two (Class 1) (Key j)) (does 3) ∷ Maps 0 (two (Class 2) (Key j)) (does 2) ∷ []) ⇒ Accepted
+    ∷ key j ⇒ rounds 1
+    ∷ Pop ⇒ gives 2 0 0
+    ∷ Pop ⇒ Nothing
+    ∷ [])
+
+-- The change gives nothing, though mode 0 has an enter list now. The next q gives the new unmapped list, and then enters mode 0
+abbrev pub the_lists_of_the_new_tables : Row
+the_lists_of_the_new_tables = row (
+    Open lists ⇒ Accepted
+    ∷ key q ⇒ rounds 1
+    ∷ Change (record { classes = []; modes = record { enter = 8 ∷ []; unmapped = 9 ∷ []; next = none } ∷ []; rules = [] }) [] ⇒ Accepted
+    ∷ Pop ⇒ gives 10 0 0
+    ∷ Pop ⇒ Nothing
+    ∷ key q ⇒ rounds 1
+    ∷ Pop ⇒ gives 9 0 0
+    ∷ Pop ⇒ gives 8 0 0
+    ∷ Pop ⇒ Nothing
+    ∷ [])
+
+-- 1 is remembered in sequence 0, and it still is in a map whose rules name no sequence, though j is lost there; 2 is not. It is
+-- being tracked still: where the rules track again, 3 stands behind it
+abbrev pub the_sequences_pass_over : Row
+the_sequences_pass_over = row (
+    Open tracking ⇒ Accepted
+    ∷ Map 0 (one (Key a)) (does 1) ⇒ Accepted
+    ∷ Map 0 (two (Key j) (Key j)) (does 9) ⇒ Accepted
+    ∷ key a ⇒ rounds 1
+    ∷ key j ⇒ rounds 1
+    ∷ Change no_tables (Maps 0 (one (Key a)) (does 2) ∷ []) ⇒ Accepted
+    ∷ key a ⇒ rounds 1
+    ∷ Pop ⇒ gives 1 0 0
+    ∷ Pop ⇒ gives 2 0 0
+    ∷ Repeats 0 none ⇒ Accepted
+    ∷ Pop ⇒ gives 1 0 0
+    ∷ Pop ⇒ Nothing
+    ∷ Change tracking (Maps 0 (one (Key a)) (does 3) ∷ []) ⇒ Accepted
+    ∷ key a ⇒ rounds 1
+    ∷ Repeats 0 none ⇒ Accepted
+    ∷ Pop ⇒ gives 1 0 0
+    ∷ Pop ⇒ gives 3 0 0
+    ∷ Pop ⇒ gives 3 0 0
+    ∷ Pop ⇒ Nothing
+    ∷ [])
+
+-- in the old map the root itself holds a step (E7); in the new one it does not, so a is consumed
+abbrev pub the_roots_of_the_new_map : Row
+the_roots_of_the_new_map = row (
+    Prefix 0 (one (Key a)) none ⇒ Accepted
+    ∷ Map 0 (one (Key a)) (does 1) ⇒ Accepted
+    ∷ Change no_tables (Prefixes 0 (one (Key a)) none ∷ []) ⇒ Accepted
+    ∷ key a ⇒ rounds 1
+    ∷ Pop ⇒ Nothing
+    ∷ [])
+
+-- the bindings of E8, of which the second is 4; and one that is 1
+abbrev pub four : List Binding
+four =
+    Maps 0 (one (Key a)) (record { flag = false; actions = 1 ∷ []; next = none; fallthrough = some 1; mark = none })
+    ∷ Maps 0 (two (Key a) Fallthrough) (does 2)
+    ∷ []
+
+abbrev pub mode_16 : Binding
+mode_16 = Prefixes 16 [] none
+
+-- Class 256 is 1 before any binding is met, and of the bindings the first that is refused counts. The old map goes on: j is half of
+-- its jj, which gives 1, and an unmapped key gives 10 by its tables
+abbrev pub a_refused_change : Row
+a_refused_change = row (
+    Open lists ⇒ Accepted
+    ∷ Map 0 (two (Key j) (Key j)) (does 1) ⇒ Accepted
+    ∷ key q ⇒ rounds 1
+    ∷ key j ⇒ rounds 1
+    ∷ Change (a_in_class 256) four ⇒ Refused 1
+    ∷ Change digits (Maps 0 (two (Key j) (Key j)) (does 3) ∷ four ++ (mode_16 ∷ [])) ⇒ Refused 4
+    ∷ Change digits (Maps 0 (two (Key j) (Key j)) (does 3) ∷ mode_16 ∷ four) ⇒ Refused 1
+    ∷ key j ⇒ rounds 1
+    ∷ key q ⇒ rounds 1
+    ∷ Pop ⇒ gives 10 0 0
+    ∷ Pop ⇒ gives 1 0 0
+    ∷ Pop ⇒ gives 10 0 0
+    ∷ Pop ⇒ Nothing
+    ∷ [])
+
 unfoldable pub examples : List Row
 examples =
     reset_keeps_the_trail
@@ -387,6 +734,31 @@ examples =
     ∷ a_run_step_clears_the_trail
     ∷ an_empty_path
     ∷ the_calls_that_are_kept
+    ∷ a_change_walks_the_trail
+    ∷ a_change_after_a_reset
+    ∷ a_trail_of_two_runs
+    ∷ a_key_that_had_fallen
+    ∷ b_needs_more
+    ∷ b_comes_to_a_flag_with_edges
+    ∷ b_would_run_a_step
+    ∷ b_is_consumed
+    ∷ b_has_no_edge
+    ∷ b_comes_to_a_flag
+    ∷ b_falls_to_a_step
+    ∷ b_falls_to_a_node
+    ∷ b_falls_to_a_root
+    ∷ a_change_in_mode_1
+    ∷ a_change_after_a_fallthrough
+    ∷ a_change_without_a_trail
+    ∷ the_walk_runs_no_hook
+    ∷ no_overflow_on_the_walk
+    ∷ a_lost_digit_counts
+    ∷ a_walk_decomposes_no_key
+    ∷ the_classes_of_the_new_tables
+    ∷ the_lists_of_the_new_tables
+    ∷ the_sequences_pass_over
+    ∷ the_roots_of_the_new_map
+    ∷ a_refused_change
     ∷ []
 
 pub examples_hold : map outcome examples ≡ examples
@@ -528,13 +900,16 @@ file_by cs = file_of graph_kind (leaves graph_kind (fresh graph_kind no_tables) 
 abbrev pub sent_as : List ℕ → List ℕ → Result (ℕ × List ℕ)
 sent_as bs out = read_map bs >>= λ s. accept (write_call graph_kind s out)
 
--- the file of calls; after open that of its tables and of the calls since; and what is sent
+-- The file of calls; after open that of its tables and of the calls since; after a change that of its tables, its bindings and the
+-- calls since, and after one that is refused the old one; and what is sent
 pub written_hold : (file_by [] ≡ empty_map)
     × (file_by some_calls ≡ their_file)
     × (file_by (some_calls ++ (Open digits ∷ Prefix 0 [] none ∷ [])) ≡ 1 ∷ 0 ∷ 48 ∷ 57 ∷ 0 ∷ 0 ∷ 1 ∷ 1 ∷ 0 ∷ 0 ∷ [])
+    × (file_by (some_calls ++ (Change digits (Prefixes 0 [] none ∷ []) ∷ Prefix 2 [] none ∷ [])) ≡ 1 ∷ 0 ∷ 48 ∷ 57 ∷ 0 ∷ 0 ∷ 2 ∷ 1 ∷ 0 ∷ 0 ∷ 1 ∷ 2 ∷ 0 ∷ [])
+    × (file_by (some_calls ++ (Change digits (Prefixes 0 [] none ∷ mode_16 ∷ []) ∷ [])) ≡ their_file)
     × (sent_as a_prefix (replicate 10 7) ≡ accept (9 * 32, a_prefix ++ (7 ∷ [])))
     × (sent_as a_prefix (replicate 9 7) ≡ accept (9 * 32, a_prefix))
     × (sent_as a_prefix (replicate 8 7) ≡ accept (10, replicate 8 0))
     × (sent_as two_modes (replicate 12 7) ≡ accept (12 * 32, two_modes))
 unfolding open-Basics open-Values open-Tables open-Graph open-KeyLoop open-Calls open-Numbers open-MapFile open-Run open-Writing
-written_hold = (refl, refl, refl, refl, refl, refl, refl)
+written_hold = (refl, refl, refl, refl, refl, refl, refl, refl, refl)

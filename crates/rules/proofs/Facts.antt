@@ -17,8 +17,8 @@ use Rattle.rules.specs.Values.{largest, most_trail, Any, Part, Step, Binding, Ma
 use Rattle.rules.specs.Tables.{Tables}
 use Rattle.rules.specs.Graph.{Edge, Graph}
 use Rattle.rules.specs.KeyLoop.{Shared, fresh_shared, with_queue, Navigator, State, at, Input, round}
-use Rattle.rules.specs.Calls.{Kind, Machine, with_state, navigate, graph_kind, Call, Open, Map, Prefix, Press, Pop, Repeats, Reset, Popped, Nothing}
-use Rattle.rules.specs.Calls.{fresh, open_with, map_call, prefix_call, key_call, repeat_call, reset_call, bind, settled, pressed, popped, call, history, leaves}
+use Rattle.rules.specs.Calls.{Kind, Machine, with_state, navigate, graph_kind, Call, Open, Map, Prefix, Press, Pop, Repeats, Reset, Change, Popped, Nothing}
+use Rattle.rules.specs.Calls.{fresh, open_with, map_call, prefix_call, key_call, repeat_call, reset_call, change_call, bind, settled, pressed, popped, call, history, leaves}
 use Rattle.rules.specs.MapFile.{read_map}
 use Rattle.rules.specs.Run.{pair_bytes, emptied, run, code_of}
 use Rattle.rules.specs.Writing.{write_map, written}
@@ -30,7 +30,7 @@ use Rattle.rules.proofs.Grown.{any_grows, single_place}
 use Rattle.rules.proofs.Weights.{Each, length-weight}
 use Rattle.rules.proofs.Rounds.{Bounded, splits}
 use Rattle.rules.proofs.Reached.{leaves_single, fresh_single, Is16, KeyIs16, begins_bounded, round_keeps, leaves_few, leaves_short}
-use Rattle.rules.proofs.Refusals.{open_always, key_always, repeat_always, reset_always, bind_always, file_always, run_always}
+use Rattle.rules.proofs.Refusals.{open_always, key_always, repeat_always, reset_always, bind_always, bind_all_always, change_always, file_always, run_always}
 
 -- ---- of one start and one event a graph has at most one edge
 
@@ -132,6 +132,7 @@ refused_leaves_all 𝓚 s c = go c
     go Pop = after_pop s.state.shared.queue
     go (Repeats q over) = after_result (repeat_call 𝓚 q over s)
     go Reset = after_result (reset_call 𝓚 s)
+    go (Change t xs) = after_result (change_call 𝓚 t xs s)
 
 -- ---- the refusals of each operation
 
@@ -173,6 +174,13 @@ repeat_refuses 𝓚 q over s = among (1 ∷ 5 ∷ []) (repeat_always 𝓚 tt tt 
 pub reset_refuses : (𝓚 : Kind) (s : Machine 𝓚) → RefusedAmong (6 ∷ 5 ∷ []) (reset_call 𝓚 s)
 unfolding some_of
 reset_refuses 𝓚 s = among (6 ∷ 5 ∷ []) (reset_always 𝓚 tt tt s)
+
+-- a change: open's, and what a map or prefix call refuses
+pub change_refuses : (t : Tables) (xs : List Binding) (s : Machine graph_kind) → RefusedAmong (1 ∷ 2 ∷ 3 ∷ 4 ∷ 11 ∷ []) (change_call graph_kind t xs s)
+unfolding some_of
+change_refuses t xs s =
+    among (1 ∷ 2 ∷ 3 ∷ 4 ∷ 11 ∷ [])
+    (change_always graph_kind tt Whatever t xs s (λ v. bind_all_always graph_kind Whatever (bind_always tt tt tt tt tt (λ g. Unit {0}) any_grows) xs (fresh graph_kind t) tt))
 
 -- a pop, of any machine: none
 pub pop_never_refuses : (𝓚 : Kind) (s : Machine 𝓚) → is_refusal (call 𝓚 s Pop).1 ≡ false

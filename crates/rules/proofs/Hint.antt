@@ -1,6 +1,6 @@
 -- Document 02, request (v): the node hint is 1,024 less the nodes made by accepted calls since fresh. Why it is so: a node is made
--- in one place, behind those that are there and while they are fewer than 16 + 1,024; nothing but an open takes one away; and a
--- refused call leaves the machine as it was.
+-- in one place, behind those that are there and while they are fewer than 16 + 1,024; nothing but an open and a change of map, which
+-- begin with a fresh graph, takes one away; and a refused call leaves the machine as it was.
 use Rattle.std.specs.Prelude.{if◌then◌else◌}
 use Prim.Native.Nat.{ℕ, ◌+◌, ◌-◌, ◌≤◌}
 use native.Mathlib.Omega.{arith}
@@ -12,25 +12,26 @@ use lib.Dec.{T, ltb}
 use lib.ListN.{length}
 use borrow.Author.Tests.{ltb-true, ltb-false}
 use Rattle.rules.specs.Basics.{Result, refuse}
-use Rattle.rules.specs.Tables.{Tables, tables_valid}
+use Rattle.rules.specs.Values.{Binding}
+use Rattle.rules.specs.Tables.{Tables}
 use Rattle.rules.specs.Graph.{NodeAction, Graph, roots, fresh_graph, add_node}
-use Rattle.rules.specs.Calls.{Machine, graph_kind, Call, Answer, fresh, settled, call, leaves, nodes_made, hint}
+use Rattle.rules.specs.Calls.{Machine, graph_kind, Call, Answer, fresh, bind, carry_over, settled, call, leaves, nodes_made, hint}
 use Rattle.rules.proofs.Examples.{refusal_of}
 use Rattle.rules.proofs.Tests.{by_cases}
 use Rattle.rules.proofs.Runs.{is_refusal}
-use Rattle.rules.proofs.Results.{Always, accepts, refuses}
+use Rattle.rules.proofs.Results.{Always, accepts, refuses, always_more}
 use Rattle.rules.proofs.Grown.{NodesBetween, nodes_grow}
-use Rattle.rules.proofs.Refusals.{open_always, bind_always}
-use Rattle.rules.proofs.Reached.{any_number, opens, by_call}
+use Rattle.rules.proofs.Refusals.{open_always, bind_always, bind_all_always, change_always}
+use Rattle.rules.proofs.Reached.{any_number, begins_anew, by_call}
 use Rattle.rules.proofs.Facts.{refused_leaves_all}
 
--- The nodes made by accepted calls since fresh, where there were n before a call that is answered so: a refused call makes none, an
--- accepted open (`opens`) begins anew, and any other accepted call makes those that the graph has more
-abbrev pub made_after : (n : ℕ) → (opened : Bool) → Answer → (more : ℕ) → ℕ
-made_after n opened x more = if is_refusal x then n else (if opened then 0 else n + more)
+-- The nodes made by accepted calls since fresh, where there were n before a call that is answered so: a refused call makes none; an
+-- accepted open or change begins anew (`begins_anew`), with a fresh graph; and the call makes those that the graph has more then
+abbrev pub made_after : (n : ℕ) → (anew : Bool) → Answer → (before after : Graph) → ℕ
+made_after n anew x g g₁ = if is_refusal x then n else (if anew then length g₁.nodes - length fresh_graph.nodes else n + (length g₁.nodes - length g.nodes))
 
 abbrev pub made_with : ℕ → Machine graph_kind → Call → ℕ
-made_with n s c = let r = call graph_kind s c in made_after n (opens c) r.1 (length r.0.bindings.nodes - length s.bindings.nodes)
+made_with n s c = let r = call graph_kind s c in made_after n (begins_anew c) r.1 s.bindings r.0.bindings
 
 -- the same after a list of calls
 abbrev pub made_since : ℕ → Machine graph_kind → List Call → ℕ
@@ -42,7 +43,7 @@ made_since n s (c ∷ cs) = made_since (made_with n s c) (call graph_kind s c).0
 -- file that is read comes to calls like these: `read_by_calls` (RoundTrip)
 pub hint_by_calls : (t : Tables) (cs : List Call) → let s = fresh graph_kind t in let g = (leaves graph_kind s cs).bindings in
     (length g.nodes ≡ 16 + made_since 0 s cs) × (hint g + made_since 0 s cs ≡ 1024)
-unfolding nodes_made hint leaves settled fresh fresh_graph roots
+unfolding nodes_made hint leaves settled fresh fresh_graph roots carry_over
 hint_by_calls t cs =
     let h = after_all cs 0 (fresh graph_kind t) (refl, omega arith) in
     (h.0, omega (arith, h.0, h.1))
@@ -52,12 +53,19 @@ hint_by_calls t cs =
     Counts n g = (length g.nodes ≡ 16 + n) × (n ≤ 1024)
 
     CountsOn : ℕ → Graph → Bool → Graph → Answer → Type 0
-    CountsOn n g o g₁ x = Counts (made_after n o x (length g₁.nodes - length g.nodes)) g₁
+    CountsOn n g a g₁ x = Counts (made_after n a x g g₁) g₁
 
-    by_open : (n : ℕ) (s : Machine graph_kind) → Counts n s.bindings → (t₁ : Tables) {r : Result (Machine graph_kind)} → Always any_number (λ s₁. (s₁ ≡ fresh graph_kind t₁) × T (tables_valid t₁)) r
+    -- a call that begins with a fresh graph
+    by_fresh : (n : ℕ) (s : Machine graph_kind) → Counts n s.bindings → {r : Result (Machine graph_kind)} → Always any_number (λ s₁. NodesBetween 16 s₁.bindings) r
         → let x = settled graph_kind s r in CountsOn n s.bindings true x.0.bindings x.1
-    by_open n s h t₁ (accepts e) = rw e.0 (refl, omega arith)
-    by_open n s h t₁ (refuses m o) = h
+    by_fresh n s h (accepts k) = (omega (arith, k.grown), omega (arith, k.room))
+    by_fresh n s h (refuses m o) = h
+
+    fresh_between : (t₁ : Tables) → NodesBetween 16 (fresh graph_kind t₁).bindings
+    fresh_between t₁ = record { grown = omega arith; room = omega arith }
+
+    binding_grows : (least : ℕ) (x : Binding) (s : Machine graph_kind) → NodesBetween least s.bindings → Always any_number (λ s₁. NodesBetween least s₁.bindings) (bind graph_kind x s)
+    binding_grows least = bind_always tt tt tt tt tt (NodesBetween least) (nodes_grow least)
 
     there : (n : ℕ) (g : Graph) → Counts n g → NodesBetween (length g.nodes) g
     there n g h = record { grown = omega arith; room = omega (arith, h.0, h.1) }
@@ -74,9 +82,10 @@ hint_by_calls t cs =
     after_call : (n : ℕ) (s : Machine graph_kind) (c : Call) → Counts n s.bindings → Counts (made_with n s c) (call graph_kind s c).0.bindings
     after_call n s c h =
         let least = length s.bindings.nodes in
-        by_call graph_kind (λ o r. CountsOn n s.bindings o r.0.bindings r.1) s
-        (λ t₁. by_open n s h t₁ (open_always graph_kind tt t₁))
-        (λ x. by_binding n s h (bind_always tt tt tt tt tt (NodesBetween least) (nodes_grow least) x s (there n s.bindings h)))
+        by_call graph_kind (λ a r. CountsOn n s.bindings a r.0.bindings r.1) s
+        (λ t₁. by_fresh n s h (always_more (λ s₁ e. rw e.0 (fresh_between t₁)) (open_always graph_kind tt t₁)))
+        (λ t₁ xs. by_fresh n s h (change_always graph_kind tt (λ s₁. NodesBetween 16 s₁.bindings) t₁ xs s (λ v. bind_all_always graph_kind (λ s₁. NodesBetween 16 s₁.bindings) (binding_grows 16) xs (fresh graph_kind t₁) (fresh_between t₁))))
+        (λ x. by_binding n s h (binding_grows least x s (there n s.bindings h)))
         (λ s₁ x m. by_other n s.bindings s₁.bindings x h m.bindings)
         c
 

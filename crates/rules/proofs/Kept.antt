@@ -1,6 +1,7 @@
 -- A machine's bindings are what its kept calls make of a fresh one with its tables. So it is freshly, and each call keeps it so: a
 -- binding call that is accepted does to the bindings what it would do from any state, and is kept behind the others; open begins
--- anew; every other call leaves tables, bindings and kept calls as they are (`by_call` of Reached).
+-- anew, and so does a change, with bindings; every other call leaves tables, bindings and kept calls as they are (`map_keeps` of
+-- Reached).
 use Prim.Native.Nat.{ℕ}
 use mathlib.Core.Path.{◌≡◌, refl, sym, ap, ap₂, ◌∙◌, subst}
 use mathlib.Core.Bool.{Bool, true, false}
@@ -15,8 +16,8 @@ use Rattle.rules.specs.Calls.{Kind, Machine, with_state, fresh, keep, map_call, 
 use Rattle.rules.proofs.Tests.{is_T}
 use Rattle.rules.proofs.Numbers.{never}
 use Rattle.rules.proofs.Results.{always_more}
-use Rattle.rules.proofs.Refusals.{SameMap, open_always}
-use Rattle.rules.proofs.Reached.{settled_keeps, always_is, by_call, leaves_keep_all}
+use Rattle.rules.proofs.Refusals.{SameMap}
+use Rattle.rules.proofs.Reached.{always_is, map_keeps, leaves_keep_all}
 
 -- ---- an accepted binding call
 
@@ -112,16 +113,10 @@ module _ (𝓚 : Kind) where
   same_replays : (s s₁ : Machine 𝓚) → Replays s → SameMap s s₁ → Replays s₁
   same_replays s s₁ h e = record { valid = rw e.tables h.valid; made = rw (e.tables, e.kept, e.bindings) h.made }
 
-  call_replays : (s : Machine 𝓚) (c : Call) → Replays s → Replays (call 𝓚 s c).0
-  call_replays s c h =
-      by_call 𝓚 (λ o r. Replays r.0) s
-      (λ t. settled_keeps 𝓚 Replays s h (always_more (λ s₁ e. rw e.0 (fresh_replays t e.1)) (open_always 𝓚 tt t)))
-      (λ x. settled_keeps 𝓚 Replays s h (always_more (λ s₁ e. bind_replays x s s₁ e h) (always_is (bind 𝓚 x s))))
-      (λ s₁ x e. same_replays s s₁ h e)
-      c
-
   pub leaves_replays : (s : Machine 𝓚) (cs : List Call) → Replays s → Replays (leaves 𝓚 s cs)
-  leaves_replays = leaves_keep_all 𝓚 Replays call_replays
+  leaves_replays =
+      leaves_keep_all 𝓚 Replays
+      (map_keeps 𝓚 Replays fresh_replays (λ x s h. always_more (λ s₁ e. bind_replays x s s₁ e h) (always_is (bind 𝓚 x s))) (λ s s₁ e h. same_replays s s₁ h e))
 
 -- ---- bindings are calls
 

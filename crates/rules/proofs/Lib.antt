@@ -3,7 +3,8 @@
 -- Facts: edges, kept calls, stack, popping, refusals; the files above it, from Grown on, are its lemmas.
 -- Find: what find gives, said without computing it. Counting: digits count to their number, or one is refused. Hint: the nodes that
 -- calls made, and those that are left. OnePass: one pass through the edges is following; Ranks has its lemmas. RoundTrip: a
--- written map is read, and a map that was read is written; the files above it, from Formats on, are its lemmas.
+-- written map is read, and a map that was read is written; the files above it, from Formats on, are its lemmas. Changes: what a
+-- change of map comes to.
 pub mod Table
 pub mod Examples
 pub mod Rows
@@ -34,3 +35,4 @@ pub mod Formats
 pub mod Kept
 pub mod FileFormats
 pub mod RoundTrip
+pub mod Changes

@@ -14,7 +14,7 @@ use Rattle.rules.specs.Values.{Part, map_valid, prefix_valid, Binding, Maps, Pre
 use Rattle.rules.specs.Tables.{Tables, tables_valid}
 use Rattle.rules.specs.Graph.{Graph}
 use Rattle.rules.specs.KeyLoop.{no_tracker, tracker, fetch, with_sequences, Input, input_key, reset_mode, repeat_sequence}
-use Rattle.rules.specs.Calls.{Kind, Machine, graph_kind, fresh, navigate, open_with, keep, map_call, prefix_call, bind, key_call, repeat_call, reset_call}
+use Rattle.rules.specs.Calls.{Kind, Machine, graph_kind, fresh, navigate, open_with, keep, map_call, prefix_call, bind, bind_all, key_call, repeat_call, reset_call, carry_over, change_call}
 use Rattle.rules.specs.Numbers.{groups, value_of, shortest, number_up_to, number}
 use Rattle.rules.specs.MapFile.{Reader, then_read, lifted, such, times, list_of, read_actions, read_optional_mode, read_class, read_mode, read_rule, read_tables, repeat_by, event_by, read_part, read_step, binding_by, read_binding, read_bindings, at_end, read_map}
 use Rattle.rules.specs.Run.{most_output, numbers_in, read_keys, pair_bytes, emptied, play_keys, run}
@@ -82,6 +82,21 @@ module _ {N : ℕ → Bool} (one : T (N 1)) (two : T (N 2)) (three : T (N 3)) (f
   bind_always (Prefixes mode path os) s h =
       always_bind (always_unless (prefix_valid mode path os) 1 one (prefix_grows G two three four grows mode path os s.bindings h))
       (λ g k. always_more (λ s₁ e. rw e.0 k) (keep_always graph_kind eleven (Prefixes mode path os) s g))
+
+-- ---- several bindings, and a change of map
+
+module _ (𝓚 : Kind) {N : ℕ → Bool} where
+  -- what each binding keeps, all keep
+  pub bind_all_always : (X : Machine 𝓚 → Type 0) → ((x : Binding) (s : Machine 𝓚) → X s → Always N X (bind 𝓚 x s)) → (xs : List Binding) (s : Machine 𝓚) → X s → Always N X (bind_all 𝓚 xs s)
+  unfolding bind_all
+  bind_all_always X keeps [] s h = accepts h
+  bind_all_always X keeps (x ∷ xs) s h = always_bind (keeps x s h) (λ s₁ h₁. bind_all_always X keeps xs s₁ h₁)
+
+  -- a change carries the state over to what its bindings make of the fresh machine
+  pub change_always : T (N 1) → (X : Machine 𝓚 → Type 0) (t : Tables) (xs : List Binding) (s : Machine 𝓚)
+      → (T (tables_valid t) → Always N (λ next. X (carry_over 𝓚 s next)) (bind_all 𝓚 xs (fresh 𝓚 t))) → Always N X (change_call 𝓚 t xs s)
+  unfolding change_call
+  change_always one X t xs s h = always_bind (open_always 𝓚 one t) (λ s₁ e. rw e.0 (always_bind (h e.1) (λ next k. accepts k)))
 
 -- ---- readers
 

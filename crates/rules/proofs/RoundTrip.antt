@@ -18,7 +18,7 @@ use Rattle.rules.proofs.Numbers.{Bytes}
 use Rattle.rules.proofs.Reached.{leaves_append}
 use Rattle.rules.proofs.Kept.{bind_all_kept, Replays, fresh_replays, leaves_replays, call_by, bound_by_calls}
 use Rattle.rules.proofs.Formats.{small}
-use Rattle.rules.proofs.FileFormats.{reads_file, found}
+use Rattle.rules.proofs.FileFormats.{Makes, reads_file, found}
 
 -- the numbers of a machine's file
 abbrev pub numbers_of : Machine graph_kind → List ℕ
@@ -39,34 +39,37 @@ pub read_of_written : (t : Tables) → T (tables_valid t) → (cs : List Call) �
     T (small (numbers_of s)) → read_map (file_of graph_kind s) ≡ accept (as_read s)
 read_of_written t valid cs fits = read_of_kept _ (leaves_replays graph_kind (fresh graph_kind t) cs (fresh_replays graph_kind t valid)) fits
 
--- The other. Whatever bytes reading accepts, writing what was read gives them
-pub written_of_read : (bs : List ℕ) → Bytes bs → (s : Machine graph_kind) → read_map bs ≡ accept s → file_of graph_kind s ≡ bs
+-- what was read is made by its own tables and kept calls, and those are what the bytes have
+of_read : (bs : List ℕ) → Bytes bs → (s : Machine graph_kind) → read_map bs ≡ accept s → Makes (s.state.shared.tables, s.kept) s × (file_of graph_kind s ≡ bs)
 unfolding file_of write_map fresh fresh_shared
-written_of_read bs h s e =
+of_read bs h s e =
     let m = found bs s h e in
     let k = bind_all_kept graph_kind m.from.1 (fresh graph_kind m.from.0) s m.stands.made in
-    ap₂ (λ t xs. in_bytes (map_numbers t xs)) (ap (λ m. m.shared.tables) k.1) k.0 ∙ sym (m.same ∙ append-nil _)
+    subst (λ f. Makes f s × (in_bytes (map_numbers f.0 f.1) ≡ bs)) (sym (ap₂ (λ t xs. (t, xs)) (ap (λ m. m.shared.tables) k.1) k.0)) (m.stands, sym (m.same ∙ append-nil _))
+
+-- The other. Whatever bytes reading accepts, writing what was read gives them
+pub written_of_read : (bs : List ℕ) → Bytes bs → (s : Machine graph_kind) → read_map bs ≡ accept s → file_of graph_kind s ≡ bs
+written_of_read bs h s e = (of_read bs h s e).1
+
+pub made_of_read : (bs : List ℕ) → Bytes bs → (s : Machine graph_kind) → read_map bs ≡ accept s → Makes (s.state.shared.tables, s.kept) s
+made_of_read bs h s e = (of_read bs h s e).0
 
 -- the first also holds of a map that was read and then changed by any calls
 pub read_of_changed : (bs : List ℕ) → Bytes bs → (s₀ : Machine graph_kind) → read_map bs ≡ accept s₀ → (cs : List Call) → let s : Machine graph_kind = leaves graph_kind s₀ cs in
     T (small (numbers_of s)) → read_map (file_of graph_kind s) ≡ accept (as_read s)
 read_of_changed bs h s₀ e cs fits =
-    let m = found bs s₀ h e in
-    let f = fresh graph_kind m.from.0 in
-    let r = leaves_replays graph_kind f (map call_by m.from.1) (fresh_replays graph_kind m.from.0 m.stands.valid) in
-    read_of_kept _ (leaves_replays graph_kind s₀ cs (subst (Replays graph_kind) (bound_by_calls graph_kind m.from.1 f s₀ m.stands.made) r)) fits
+    let m = made_of_read bs h s₀ e in
+    let f = fresh graph_kind s₀.state.shared.tables in
+    let r = leaves_replays graph_kind f (map call_by s₀.kept) (fresh_replays graph_kind s₀.state.shared.tables m.valid) in
+    read_of_kept _ (leaves_replays graph_kind s₀ cs (subst (Replays graph_kind) (bound_by_calls graph_kind s₀.kept f s₀ m.made) r)) fits
 
 -- A map that was read and then changed by any calls is what calls lead to from fresh: those that bind what it keeps, and then these.
 -- So what `Facts` and `Hint` say of every list of calls from the fresh machine holds of it
 pub read_by_calls : (bs : List ℕ) → Bytes bs → (s : Machine graph_kind) → read_map bs ≡ accept s
     → (cs : List Call) → leaves graph_kind (fresh graph_kind s.state.shared.tables) (map call_by s.kept ++ cs) ≡ leaves graph_kind s cs
-unfolding fresh fresh_shared
 read_by_calls bs h s e cs =
-    let m = found bs s h e in
-    let f = fresh graph_kind m.from.0 in
-    let k = bind_all_kept graph_kind m.from.1 f s m.stands.made in
-    ap₂ (λ t xs. leaves graph_kind (fresh graph_kind t) (map call_by xs ++ cs)) (ap (λ m. m.shared.tables) k.1) k.0 ∙ leaves_append graph_kind f (map call_by m.from.1) cs
-    ∙ ap (λ u. leaves graph_kind u cs) (bound_by_calls graph_kind m.from.1 f s m.stands.made)
+    let f = fresh graph_kind s.state.shared.tables in
+    leaves_append graph_kind f (map call_by s.kept) cs ∙ ap (λ u. leaves graph_kind u cs) (bound_by_calls graph_kind s.kept f s (made_of_read bs h s e).made)
 
 -- ---- the output
 

@@ -15,13 +15,13 @@ use Rattle.rules.specs.Values.{Event, Key, Class, Any, Fallthrough, Repeat, Min,
 use Rattle.rules.specs.Tables.{ClassEntry, ModeEntry, Rule, Tables, no_tables, open-Tables}
 use Rattle.rules.specs.Graph.{NodeAction, Empty, Root, Holds, Node, Graph, fresh_graph, add_node, put_edge, open-Graph}
 use Rattle.rules.specs.KeyLoop.{tracker, no_tracker, open-KeyLoop}
-use Rattle.rules.specs.Calls.{Call, Open, Map, Prefix, Pop, Repeats, Reset, Answer, Accepted, Refused, Popped, Nothing, Pressed, PressRefused, Machine, graph_kind, fresh, bind, call, leaves, holds_action, find, hint, open-Calls}
+use Rattle.rules.specs.Calls.{Call, Open, Map, Prefix, Pop, Repeats, Reset, Change, Answer, Accepted, Refused, Popped, Nothing, Pressed, PressRefused, Machine, graph_kind, fresh, bind, change_call, call, leaves, holds_action, find, hint, open-Calls}
 use Rattle.rules.specs.Numbers.{open-Numbers}
 use Rattle.rules.specs.MapFile.{read_bindings, read_map, open-MapFile}
 use Rattle.rules.specs.Run.{most_output, most_input, play_budget, lines_of, decimal, refusal, text_of, play_input, keyplay, open-Run}
 use Rattle.rules.specs.Writing.{written, file_of, open-Writing}
 use Rattle.rules.proofs.Table.{Tried, ◌⇒◌, once, one, two, does, key, key_within, rounds, gives, a, b, j, q, r, z, Row, row, try_all, step_held, outcome}
-use Rattle.rules.proofs.Examples.{refusal_of, Bytes, ◌meets◌}
+use Rattle.rules.proofs.Examples.{mode_16, refusal_of, Bytes, ◌meets◌}
 use Rattle.rules.proofs.Tests.{by_cases, no_way, T-is, is_T}
 
 -- ---- the limits, as document 01 has them, and the 1,024 kept calls of document 02's request (i)
@@ -434,6 +434,28 @@ the_end_of_a_prefix_is_empty = row (
     ∷ Pop ⇒ Nothing
     ∷ [])
 
+-- ---- a change of map
+
+-- A trail of 64 is walked and kept: one more a there is 7. In a map of 65 a, the 65th runs the step. In one of 64 the last of them
+-- would run it, so the trail is lost, and a is the first of 64
+abbrev pub a_change_of_64_keys : Row
+a_change_of_64_keys = row (
+    Map 0 (part (Min 1) (Key a) ∷ once (Key b) ∷ []) (does 1) ⇒ Accepted
+    ∷ replicate 64 (key a ⇒ rounds 1)
+    ++ (Change no_tables (Maps 0 (part (Min 1) (Key a) ∷ once (Key b) ∷ []) (does 2) ∷ []) ⇒ Accepted
+    ∷ key a ⇒ PressRefused 7 1
+    ∷ Change no_tables (Maps 0 (part (Max 65) (Key a) ∷ []) (does 3) ∷ []) ⇒ Accepted
+    ∷ key a ⇒ rounds 1
+    ∷ Pop ⇒ gives 3 0 0
+    ∷ replicate 64 (key a ⇒ rounds 1)
+    ++ (Change no_tables (Maps 0 (part (Max 64) (Key a) ∷ []) (does 4) ∷ []) ⇒ Accepted
+    ∷ replicate 63 (key a ⇒ rounds 1)
+    ++ (Pop ⇒ Nothing
+    ∷ key a ⇒ rounds 1
+    ∷ Pop ⇒ gives 4 0 0
+    ∷ Pop ⇒ Nothing
+    ∷ []))))
+
 unfoldable pub all_rows : List Row
 all_rows =
     tables_at_their_limits
@@ -453,6 +475,7 @@ all_rows =
     ∷ none_behind_another
     ∷ a_prefix_that_goes_round
     ∷ the_end_of_a_prefix_is_empty
+    ∷ a_change_of_64_keys
     ∷ []
 
 -- The theorem: the rules give every row its answers
@@ -497,14 +520,25 @@ reads_one bs s = refusal_of (read_bindings 1 s bs)
 abbrev pub nearly_full_and_full : List (Machine graph_kind)
 nearly_full_and_full = keeping 1023 fresh_graph ∷ keeping 1024 fresh_graph ∷ keeping 1024 (with_nodes 1040) ∷ keeping 1024 (with_edges 2048) ∷ []
 
+-- what a change to so many bindings comes to on the machine
+abbrev pub changes_to : ℕ → Machine graph_kind → ℕ
+changes_to n s = refusal_of (change_call graph_kind no_tables (replicate n (Prefixes 0 [] none)) s)
+
+-- the machines after a change to no binding
+abbrev pub emptied_map : Machine graph_kind → Machine graph_kind
+emptied_map s = (call graph_kind s (Change no_tables [])).0
+
 -- The 1,024th call is kept, the next is 11; a full graph is 2, and a full edge table 3, before that. In a file 11 is met after the
--- binding's last number, before a byte left over: an early end and mode 16 are met first
+-- binding's last number, before a byte left over: an early end and mode 16 are met first. After a change to nothing all of them have
+-- room. A change counts its own bindings alone: 1,024 are kept, whatever was kept before, and the 1,025th is 11
 pub keeps_hold : (map (binds (Maps 0 (one (Key a)) (does 1))) nearly_full_and_full ≡ 0 ∷ 11 ∷ 2 ∷ 3 ∷ [])
     × (map (binds (Prefixes 0 (one (Key a)) (some (does 1)))) nearly_full_and_full ≡ 0 ∷ 11 ∷ 2 ∷ 3 ∷ [])
     × (map (reads_one (1 ∷ 0 ∷ 0 ∷ 0 ∷ [])) (keeping 1023 fresh_graph ∷ keeping 1024 fresh_graph ∷ []) ≡ 0 ∷ 11 ∷ [])
     × (map (λ bs. reads_one bs (keeping 1024 fresh_graph)) ((1 ∷ 0 ∷ []) ∷ (1 ∷ 16 ∷ []) ∷ []) ≡ 9 ∷ 1 ∷ [])
+    × (map (λ s. binds (Maps 0 (one (Key a)) (does 1)) (emptied_map s)) nearly_full_and_full ≡ 0 ∷ 0 ∷ 0 ∷ 0 ∷ [])
+    × (map (λ n. changes_to n (keeping 1024 (with_nodes 1040))) (1024 ∷ 1025 ∷ []) ≡ 0 ∷ 11 ∷ [])
 unfolding open-Basics open-Values open-Tables open-Graph open-KeyLoop open-Calls open-Numbers open-MapFile
-keeps_hold = (refl, refl, refl, refl)
+keeps_hold = (refl, refl, refl, refl, refl, refl)
 
 -- The nodes that these make: 16 and 17 with action 1, the higher for the lower key; 18 in mode 1, flagged; 19, which enters mode 1;
 -- in mode 2 the root itself gets action 1 (E7), and 20; 21 in mode 3, to which no key leads any more (E6)
@@ -521,8 +555,20 @@ shown =
     ∷ Prefix 3 (one (Key a)) none
     ∷ []
 
+-- a change that is refused, with a binding before the one that is; and one that is not, whose nodes are numbered from 16 again
+abbrev pub refused_change : Call
+refused_change = Change no_tables (Maps 0 (one (Key a)) (does 1) ∷ mode_16 ∷ [])
+
+abbrev pub two_nodes : Call
+two_nodes = Change no_tables (Maps 1 (two (Key a) (Key b)) (does 1) ∷ Prefixes 0 (one (Key q)) none ∷ [])
+
+-- the graph that a call leaves behind `shown`
+abbrev pub after_shown : Call → Graph
+after_shown c = (leaves graph_kind (fresh graph_kind no_tables) (shown ++ (c ∷ []))).bindings
+
 -- The lowest; one in another mode alone; the second action of a flagged step; action 0, which j's step gives and does not have; a
--- root before a higher node; a step that no key runs; a mode without bindings; mode 16
+-- root before a higher node; a step that no key runs; a mode without bindings; mode 16. After a refused change the old map's nodes,
+-- and after an accepted one those of the new map alone
 pub finds_hold : let g = (leaves graph_kind (fresh graph_kind no_tables) shown).bindings in
     (find g 0 1 ≡ accept (some 16))
     × (find g 1 1 ≡ accept none)
@@ -532,8 +578,11 @@ pub finds_hold : let g = (leaves graph_kind (fresh graph_kind no_tables) shown).
     × (find g 3 6 ≡ accept (some 21))
     × (find g 15 1 ≡ accept none)
     × (find g 16 1 ≡ refuse 1)
+    × (find (after_shown refused_change) 1 3 ≡ accept (some 18))
+    × (find (after_shown two_nodes) 1 1 ≡ accept (some 17))
+    × (find (after_shown two_nodes) 2 1 ≡ accept none)
 unfolding open-Basics open-Values open-Tables open-Graph open-KeyLoop open-Calls
-finds_hold = (refl, refl, refl, refl, refl, refl, refl, refl)
+finds_hold = (refl, refl, refl, refl, refl, refl, refl, refl, refl, refl, refl)
 
 -- each call's answer, with the hint after it
 abbrev pub hints : Machine graph_kind → List Call → List (Answer × ℕ)
@@ -553,6 +602,7 @@ behind_shown = Map 16 (one (Key q)) (does 1) ∷ Prefix 0 (one (Class 256)) none
 
 -- In this order: of graphs by their nodes, where no call makes one of 0, 15 or 1,041; after each call of `shown`, whose prefixes make
 -- no node, nor does the mapping onto a root; behind them what is refused with 1, what binds nothing, and an open that begins anew;
+-- a change that is refused with 1, one to two nodes, a node more, and a change to nothing; where none is left, the change to two;
 -- where two nodes are left, three keys (2), two, the same again, a prefix, which needs none, and a key more (2); and two nodes of a
 -- call that has made them when it is refused with 3, and with 11
 pub hints_hold :
@@ -560,12 +610,15 @@ pub hints_hold :
     × (map (λ x. x.1) (hints (fresh graph_kind no_tables) shown) ≡ 1023 ∷ 1022 ∷ 1021 ∷ 1020 ∷ 1020 ∷ 1020 ∷ 1019 ∷ 1018 ∷ 1018 ∷ [])
     × (hints (leaves graph_kind (fresh graph_kind no_tables) shown) behind_shown
     ≡ (Refused 1, 1018) ∷ (Refused 1, 1018) ∷ (Refused 1, 1018) ∷ (Pressed 1, 1018) ∷ (Popped (pair 0 0 0), 1018) ∷ (Accepted, 1024) ∷ [])
+    × (hints (leaves graph_kind (fresh graph_kind no_tables) shown) (refused_change ∷ two_nodes ∷ Map 0 (one (Key j)) (does 1) ∷ Change no_tables [] ∷ [])
+    ≡ (Refused 1, 1018) ∷ (Accepted, 1022) ∷ (Accepted, 1021) ∷ (Accepted, 1024) ∷ [])
+    × (hints (keeping 1024 (with_nodes 1040)) (two_nodes ∷ []) ≡ (Accepted, 1022) ∷ [])
     × (hints (keeping 0 (with_nodes 1038)) (three_keys ∷ two_keys ∷ two_keys ∷ Prefix 3 (one (Key q)) none ∷ three_keys ∷ [])
     ≡ (Refused 2, 2) ∷ (Accepted, 0) ∷ (Accepted, 0) ∷ (Accepted, 0) ∷ (Refused 2, 0) ∷ [])
     × (hints (keeping 0 (record { nodes = fresh_graph.nodes; edges = (with_edges 2047).edges })) (two_keys ∷ []) ≡ (Refused 3, 1024) ∷ [])
     × (hints (keeping 1024 fresh_graph) (two_keys ∷ []) ≡ (Refused 11, 1024) ∷ [])
 unfolding open-Basics open-Values open-Tables open-Graph open-KeyLoop open-Calls
-hints_hold = (refl, refl, refl, refl, refl, refl)
+hints_hold = (refl, refl, refl, refl, refl, refl, refl, refl)
 
 -- ---- map files and text
 

@@ -1,6 +1,6 @@
 -- Two kinds of machine whose bindings agree give the same answers and observable states to every list of plain calls: a
--- call changes the bindings by mapping alone, both keep the same calls, and all else goes through the key loop, of which
--- Simulation speaks.
+-- call changes the bindings by mapping alone, in a change of map from none on; both keep the same calls; and all else goes through
+-- the key loop and the walk along the trail, of which Simulation speaks.
 use Prim.Native.Nat.{ℕ, ◌+◌}
 use mathlib.Core.Path.{◌≡◌, refl, ap}
 use mathlib.Core.Bool.{Bool, true, false, not, ◌&&◌}
@@ -9,15 +9,15 @@ use mathlib.Core.List.{List, [], ◌∷◌, map}
 use lib.Dec.{T, eqb, leb, ltb}
 use lib.ListN.{length, get_or}
 use Rattle.rules.specs.Basics.{Result, every}
-use Rattle.rules.specs.Values.{most_kept, most_queued, is_sequence, default_mode, Part, Step, map_valid, Binding, Context, Pair}
+use Rattle.rules.specs.Values.{most_kept, most_queued, is_sequence, default_mode, Part, Step, map_valid, Binding, Maps, Prefixes, Context, Pair}
 use Rattle.rules.specs.Tables.{Tables, tables_valid}
 use Rattle.rules.specs.KeyLoop.{no_tracker, tracker, fetch, Shared, fresh_shared, with_sequences, State, KeyResult, input_key, reset_mode, repeat_sequence}
-use Rattle.rules.specs.Calls.{Kind, Machine, Call, Open, Map, Prefix, Press, Pop, Repeats, Reset, Answer, Accepted, Refused, Popped, Nothing, Pressed, PressRefused}
-use Rattle.rules.specs.Calls.{fresh, open_with, keep, map_call, key_call, repeat_call, reset_call, settled, pressed, popped, call, history, leaves}
-use Rattle.rules.specs.ListReader.{plain}
+use Rattle.rules.specs.Calls.{Kind, Machine, Call, Open, Map, Prefix, Press, Pop, Repeats, Reset, Change, Answer, Accepted, Refused, Popped, Nothing, Pressed, PressRefused}
+use Rattle.rules.specs.Calls.{fresh, open_with, keep, map_call, bind, bind_all, key_call, repeat_call, reset_call, carry_over, change_call, settled, pressed, popped, call, history, leaves}
+use Rattle.rules.specs.ListReader.{plain_binding, plain}
 use Rattle.rules.proofs.Tests.{T_and, and_T}
 use Rattle.rules.proofs.Results.{Always, accepts, always_unless}
-use Rattle.rules.proofs.Simulation.{is_other, Fits, Both, both_accept, both_refuse, both_bind, both_use, both_unless, Agree, Same, same, SameKey, same_key, goto_same, loop_same}
+use Rattle.rules.proofs.Simulation.{is_other, Fits, Both, both_accept, both_refuse, both_bind, both_use, both_unless, Agree, Same, same, SameKey, same_key, goto_same, loop_same, resume_same}
 
 -- the refusal n, of a key or of another call
 abbrev pub says_refused : ℕ → Answer → Bool
@@ -53,7 +53,7 @@ module _ (𝓖 𝓛 : Kind) (RB : 𝓖.Bindings → 𝓛.Bindings → Type 0) (R
   pub record Related : Type 0 where
     pub fresh : RB 𝓖.none_yet 𝓛.none_yet
     pub follow : (b : 𝓖.Bindings) (l : 𝓛.Bindings) → RB b l → Agree (R b l) (𝓖.navigator b) (𝓛.navigator l)
-    pub maps : (mode : ℕ) (ps : List Part) (s : Step) → T (plain (Map mode ps s)) → T (map_valid mode ps s)
+    pub maps : (mode : ℕ) (ps : List Part) (s : Step) → T (plain_binding (Maps mode ps s)) → T (map_valid mode ps s)
         → (b : 𝓖.Bindings) (l : 𝓛.Bindings) → RB b l → Both (Grown b l) (𝓖.map_in mode ps s b) (𝓛.map_in mode ps s l)
 
   -- ---- two machines that differ in bindings and place alone: both kept the same calls
@@ -86,13 +86,37 @@ module _ (𝓖 𝓛 : Kind) (RB : 𝓖.Bindings → 𝓛.Bindings → Type 0) (R
     unfolding fresh fresh_shared
     fresh_alike t v = alike 𝓡.fresh (same ((𝓡.follow 𝓖.none_yet 𝓛.none_yet 𝓡.fresh).roots default_mode tt) (v, tt))
 
+    open_same : (t : Tables) → Both Alike (open_with 𝓖 t) (open_with 𝓛 t)
+    unfolding open_with
+    open_same t = both_unless (tables_valid t) 1 tt (λ v. both_accept (fresh_alike t v))
+
+    bind_same : (x : Binding) → T (plain_binding x) → (s : Machine 𝓖) (u : Machine 𝓛) → Alike s u → Both Alike (bind 𝓖 x s) (bind 𝓛 x u)
+    unfolding plain_binding bind map_call keep
+    bind_same (Maps mode ps st) h s u (alike {b = b} {l = l} {ks = ks} rb (same {p = p} {q = q} r f)) =
+        both_bind (both_unless (map_valid mode ps st) 1 tt (λ v. 𝓡.maps mode ps st h v b l rb))
+        (λ b₁ l₁ g. both_unless (ltb (length ks) most_kept) 11 tt (λ _. both_accept (alike g.bindings (same (g.places p q r) f))))
+    bind_same (Prefixes mode ps st) h s u w = absurd h
+
+    bind_all_same : (xs : List Binding) → T (every plain_binding xs) → (s : Machine 𝓖) (u : Machine 𝓛) → Alike s u → Both Alike (bind_all 𝓖 xs s) (bind_all 𝓛 xs u)
+    unfolding bind_all every
+    bind_all_same [] h s u w = both_accept w
+    bind_all_same (x ∷ xs) h s u w =
+        let k = T_and (plain_binding x) (every plain_binding xs) h in both_bind (bind_same x k.0 s u w) (λ s₁ u₁ w₁. bind_all_same xs k.1 s₁ u₁ w₁)
+
+    -- the state of two machines that are alike, carried over to two that are
+    carry_same : (s : Machine 𝓖) (u : Machine 𝓛) → Alike s u → (s₁ : Machine 𝓖) (u₁ : Machine 𝓛) → Alike s₁ u₁ → Alike (carry_over 𝓖 s s₁) (carry_over 𝓛 u u₁)
+    unfolding carry_over
+    carry_same s u (alike rb (same r f)) s₁ u₁ (alike {b = b} {l = l} rb₁ (same r₁ f₁)) =
+        alike rb₁ (resume_same (R b l) (𝓖.navigator b) (𝓛.navigator l) (𝓡.follow b l rb₁) _ (f₁.0, f.1))
+
     call_same : (s : Machine 𝓖) (u : Machine 𝓛) → Alike s u → (c : Call) → T (plain c) → SameAnswer (call 𝓖 s c) (call 𝓛 u c)
-    unfolding plain call open_with keep map_call key_call repeat_call reset_call popped input_key reset_mode
-    call_same s u w (Open t) h = settled_same w (both_unless (tables_valid t) 1 tt (λ v. both_accept (fresh_alike t v)))
-    call_same s u (alike {b = b} {l = l} {ks = ks} rb (same {p = p} {q = q} r f)) (Map mode ps st) h =
-        settled_same (alike rb (same r f))
-        (both_bind (both_unless (map_valid mode ps st) 1 tt (λ v. 𝓡.maps mode ps st h v b l rb))
-        (λ b₁ l₁ g. both_unless (ltb (length ks) most_kept) 11 tt (λ _. both_accept (alike g.bindings (same (g.places p q r) f)))))
+    unfolding plain call bind key_call repeat_call reset_call change_call popped input_key reset_mode
+    call_same s u w (Open t) h = settled_same w (open_same t)
+    call_same s u w (Map mode ps st) h = settled_same w (bind_same (Maps mode ps st) h s u w)
+    call_same s u w (Change t xs) h =
+        settled_same w
+        (both_bind (open_same t) (λ s₁ u₁ w₁.
+        both_bind (bind_all_same xs h s₁ u₁ w₁) (λ s₂ u₂ w₂. both_accept (carry_same s u w s₂ u₂ w₂))))
     call_same s u w (Prefix mode ps st) h = absurd h
     call_same s u (alike {b = b} {l = l} {m = m} {n = n} rb w) (Press i) h =
         pressed_same s u (alike rb w) (loop_same (R b l) (𝓖.navigator b) (𝓛.navigator l) (𝓡.follow b l rb) i.budget 0 (i.key ∷ []) m n w)

@@ -13,7 +13,7 @@ use Rattle.rules.specs.Basics.{Result, accept, refuse, ◌>>=◌, unless, every,
 use Rattle.rules.specs.Values.{most_classes, mode_count, most_actions, most_trail, decomposes, is_mode, default_action, Event, Step}
 use Rattle.rules.specs.Tables.{ClassEntry, class_valid, ModeEntry, no_entry, mode_entry, mode_valid, Tables, tables_valid}
 use Rattle.rules.specs.KeyLoop.{Shared, with_mode, with_trail, give_all}
-use Rattle.rules.specs.KeyLoop.{InputResult, Again, ClearTrail, Consumed, NeedMore, Unmapped, RunStep, RetryAfter, Turn, Navigator, State, KeyResult, run_hook, set_mark, or_default, at, proceed, goto_mode, unmapped, step_to, step, after, round, loop}
+use Rattle.rules.specs.KeyLoop.{InputResult, Again, ClearTrail, Consumed, NeedMore, Unmapped, RunStep, RetryAfter, Turn, Navigator, State, KeyResult, run_hook, needs_more, set_mark, or_default, at, proceed, goto_mode, unmapped, step_to, step, after, round, loop, walk, walked, resume}
 use Rattle.rules.proofs.Tests.{T_and}
 use Rattle.rules.proofs.Results.{Always, accepts, refuses, give_all_keeps, hook_keeps}
 
@@ -121,6 +121,11 @@ module _ {P Q : Type 0} (R : P → Q → Type 0) where
     same_key : (made : ℕ) {x : Result (State P)} {y : Result (State Q)} → Both Same x y
         → SameKey (record { rounds = made; result = x }) (record { rounds = made; result = y })
 
+  -- two walks come to such places, or neither comes to one
+  data SameWalk : Option P → Option Q → Type 0 where
+    to_places : {p : P} {q : Q} → R p q → SameWalk (some p) (some q)
+    to_none : SameWalk none none
+
 module _ {P Q : Type 0} (R : P → Q → Type 0) (np : Navigator P) (nq : Navigator Q) (𝓐 : Agree R np nq) where
   pub goto_same : (m : ℕ) → T (is_mode m) → (c : Shared) → Fits c → Both (Same R) (goto_mode np m c) (goto_mode nq m c)
   unfolding goto_mode
@@ -181,3 +186,25 @@ module _ {P Q : Type 0} (R : P → Q → Type 0) (np : Navigator P) (nq : Naviga
           → SameKey R (proceed (suc made) (λ ks₁ m₁. loop np left (suc made) ks₁ m₁) x) (proceed (suc made) (λ ks₁ m₁. loop nq left (suc made) ks₁ m₁) y)
       go on (both_accept (same_run ks₁ w₁)) = on ks₁ _ _ w₁
       go on (both_refuse n₁ o) = same_key _ (both_refuse n₁ o)
+
+  -- ---- the trail in a new map
+
+  walked_same : {o : Option P} {u : Option Q} → SameWalk R o u → (c : Shared) → Fits c → Same R (walked np o c) (walked nq u c)
+  unfolding walked
+  walked_same (to_places r) c h = same r h
+  walked_same to_none c h = same (𝓐.roots c.mode h.1) h
+
+  walk_same : (cs : List ClassEntry) (ks : List ℕ) (p : P) (q : Q) → R p q → SameWalk R (walk np cs ks p) (walk nq cs ks q)
+  unfolding walk
+  walk_same cs [] p q r = to_places r
+  walk_same cs (k ∷ ks) p q r =
+      let w = 𝓐.turns cs p q r k in
+      rw (← w.result) (go (needs_more (np.turn cs p k).result) (walk_same cs ks _ _ w.place))
+    where
+      go : (b : Bool) {o : Option P} {u : Option Q} → SameWalk R o u → SameWalk R (if b then o else none) (if b then u else none)
+      go true w = w
+      go false w = to_none
+
+  pub resume_same : (c : Shared) → Fits c → Same R (resume np c) (resume nq c)
+  unfolding resume
+  resume_same c h = walked_same (walk_same c.tables.classes c.trail (np.root c.mode) (nq.root c.mode) (𝓐.roots c.mode h.1)) c h

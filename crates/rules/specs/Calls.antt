@@ -1,12 +1,12 @@
--- Document 01, "Refused calls, operation by operation": open, map, prefix, key, pop, repeat, reset and mode on a machine
--- over any store of bindings; the graph machine; lists of calls; find; and the node hint.
+-- Document 01, "Refused calls, operation by operation": open, map, prefix, key, pop, repeat, reset and mode, and document 02's
+-- change of map, on a machine over any store of bindings; the graph machine; lists of calls; find; and the node hint.
 use Rattle.std.specs.Prelude.{ℕ, suc, ◌-◌, Bool, false, ◌&&◌, List, [], ◌∷◌, ◌++◌, eqb, ltb, length, if◌then◌else◌}
 use Rattle.std.proofs.Math.Option.{Option, none, some}
 use Rattle.rules.specs.Basics.{Result, accept, refuse, ◌>>=◌, unless, some_of}
 use Rattle.rules.specs.Values.{mode_count, most_nodes, most_kept, is_mode, default_mode, Event, Part, Step, map_valid, prefix_valid, Binding, Maps, Prefixes, Context, Pair}
 use Rattle.rules.specs.Tables.{Tables, tables_valid}
 use Rattle.rules.specs.Graph.{NodeAction, Empty, Root, Holds, Node, Graph, fresh_graph, get_node, has_edges, Follow, Successor, FallsTo, NoSuccessor, follow_edge, add_mapping, add_prefix}
-use Rattle.rules.specs.KeyLoop.{Shared, fresh_shared, with_queue, Again, ClearTrail, Consumed, NeedMore, Unmapped, RunStep, RetryAfter, Turn, Navigator, State, at, Input, KeyResult, input_key, reset_mode, repeat_sequence}
+use Rattle.rules.specs.KeyLoop.{Shared, fresh_shared, with_tables, with_queue, Again, ClearTrail, Consumed, NeedMore, Unmapped, RunStep, RetryAfter, Turn, Navigator, State, at, Input, KeyResult, input_key, reset_mode, resume, repeat_sequence}
 
 -- ---- calls and answers
 
@@ -18,6 +18,7 @@ pub data Call : Type 0 where
   Pop : Call
   Repeats : ℕ → Option Context → Call
   Reset : Call
+  Change : Tables → List Binding → Call
 
 -- Acceptance or the refusal's number; for a pop the pair or "nothing"; for a key, refused or not, also the rounds made
 pub data Answer : Type 0 where
@@ -105,6 +106,18 @@ module _ (𝓚 : Kind) where
     m ← reset_mode (navigate s) s.state
     accept (with_state s m)
 
+  -- the next machine's tables, bindings and kept calls, with the queue, the sequences, the entered mode and the context of s, and
+  -- its trail as it is walked there (document 02, request (vi))
+  unfoldable pub carry_over : Machine → Machine → Machine
+  carry_over s next = with_state next (resume (navigate next) (with_tables next.state.shared.tables s.state.shared))
+
+  -- change: the new tables as at open and then the new bindings in their order, which are refused by the first number met
+  unfoldable pub change_call : Tables → List Binding → Machine → Result Machine
+  change_call t xs s = do
+    s₁ ← open_with t
+    next ← bind_all xs s₁
+    accept (carry_over s next)
+
   -- mode: the entered one
   unfoldable pub mode_call : Machine → ℕ
   mode_call s = s.state.shared.mode
@@ -133,6 +146,7 @@ module _ (𝓚 : Kind) where
   call s Pop = popped s s.state.shared.queue
   call s (Repeats q over) = settled s (repeat_call q over s)
   call s Reset = settled s (reset_call s)
+  call s (Change t xs) = settled s (change_call t xs s)
 
   -- ---- a list of calls, each on the machine that the one before left
 
@@ -202,8 +216,8 @@ find g mode a = unless (is_mode mode) 1 (accept (first_node (holds_action mode a
 
 -- ---- the node hint (document 02, request (v))
 
--- the nodes made by accepted calls since fresh: all but the roots, since a refused call leaves the graph, and only an open, which
--- leaves a fresh one, takes any away
+-- the nodes made by accepted calls since fresh: all but the roots, since a refused call leaves the graph, and only an open and a
+-- change, which begin with a fresh one, take any away
 unfoldable pub nodes_made : Graph → ℕ
 nodes_made g = length g.nodes - mode_count
 
@@ -213,5 +227,5 @@ hint g = most_nodes - nodes_made g
 
 -- ---- everything above, to be opened by one name where a run is computed
 unfoldable pub open-Calls : Unit {0}
-unfolding fresh open_with keep map_call prefix_call bind bind_all key_call repeat_call reset_call mode_call settled pressed popped call history leaves arrive land turn_by graph_navigator does holds_action first_node find nodes_made hint
+unfolding fresh open_with keep map_call prefix_call bind bind_all key_call repeat_call reset_call carry_over change_call mode_call settled pressed popped call history leaves arrive land turn_by graph_navigator does holds_action first_node find nodes_made hint
 open-Calls = tt

@@ -1,5 +1,6 @@
 -- Document 01, "Key loop": the loop of `input_key` over any way of following keys, with `push`, `goto_mode`, `unmapped`,
--- `step`, `repeat` and `reset_mode`. The graph machine and the list reader share everything in this file.
+-- `step`, `repeat` and `reset_mode`; and document 02's walk along the trail in a new map. The graph machine and the list reader
+-- share everything in this file.
 use Rattle.std.specs.Prelude.{ℕ, zero, suc, ◌+◌, Bool, true, false, List, [], ◌∷◌, ◌++◌, map, leb, ltb, length, get_or, set, drop, replicate, if◌then◌else◌}
 use Rattle.std.proofs.Math.Option
 use Rattle.std.proofs.Math.Option.{Option, none, some}
@@ -54,6 +55,9 @@ pub record Shared : Type 0 where
 unfoldable pub fresh_shared : Tables → Shared
 fresh_shared t = record { tables = t; mode = default_mode; context = no_context; queue = []; trail = []; sequences = replicate sequence_count no_tracker }
 
+abbrev pub with_tables : Tables → Shared → Shared
+with_tables x c = record { tables = x; mode = c.mode; context = c.context; queue = c.queue; trail = c.trail; sequences = c.sequences }
+
 abbrev pub with_mode : ℕ → Shared → Shared
 with_mode x c = record { tables = c.tables; mode = x; context = c.context; queue = c.queue; trail = c.trail; sequences = c.sequences }
 
@@ -106,6 +110,16 @@ give_all acts c = let t = take c.context in push_all acts t.0 (with_context t.1 
 pub data InputResult : Type 0 where
   Again ClearTrail Consumed NeedMore Unmapped : InputResult
   RunStep RetryAfter : Step → InputResult
+
+-- is more needed? Not where a key falls through, which is `Again`, `ClearTrail` or `RetryAfter`
+unfoldable pub needs_more : InputResult → Bool
+needs_more Again = false
+needs_more ClearTrail = false
+needs_more Consumed = false
+needs_more NeedMore = true
+needs_more Unmapped = false
+needs_more (RunStep s) = false
+needs_more (RetryAfter s) = false
 
 -- One round: the event gone by, if any, the place come to, and what is to be done there
 pub record Turn (P : Type 0) : Type 0 where
@@ -226,6 +240,22 @@ module _ {P : Type 0} (nav : Navigator P) where
   unfoldable pub reset_mode : State P → Result (State P)
   reset_mode m = goto_mode default_mode (with_sequences (map (λ s. tracker s.pairs true) m.shared.sequences) m.shared)
 
+  -- ---- the trail in a new map (document 02, request (vi))
+
+  -- by following only, without hooks: the place come to, if every key needs more
+  unfoldable pub walk : List ClassEntry → List ℕ → P → Option P
+  walk cs [] p = some p
+  walk cs (k ∷ ks) p = let turn = nav.turn cs p k in if needs_more turn.result then walk cs ks turn.place else none
+
+  -- that place is taken and the trail kept; otherwise the place is the root and the trail is empty
+  unfoldable pub walked : Option P → Shared → State P
+  walked (some p) c = at p c
+  walked none c = at (nav.root c.mode) (with_trail [] c)
+
+  -- the trail is walked from the root of the entered mode
+  unfoldable pub resume : Shared → State P
+  resume c = walked (walk c.tables.classes c.trail (nav.root c.mode)) c
+
 -- ---- `repeat`: 1 sequence over 7; the merged pairs go before the queue: 5 it would pass 256
 unfoldable pub repeat_sequence : ℕ → Option Context → Shared → Result Shared
 repeat_sequence s over c =
@@ -236,5 +266,5 @@ repeat_sequence s over c =
 
 -- ---- everything above, to be opened by one name where a run is computed
 unfoldable pub open-KeyLoop : Unit {0}
-unfolding no_tracker track override fetch fresh_shared apply_rule apply_rules push push_all give_all run_hook set_mark or_default proceed goto_mode unmapped step_to step after round loop input_key reset_mode repeat_sequence
+unfolding no_tracker track override fetch fresh_shared apply_rule apply_rules push push_all give_all needs_more run_hook set_mark or_default proceed goto_mode unmapped step_to step after round loop input_key reset_mode walk walked resume repeat_sequence
 open-KeyLoop = tt

@@ -3,11 +3,11 @@
 use Rattle.std.specs.Prelude.{ℕ, Bool, true, false, ◌&&◌, ◌||◌, List, [], ◌∷◌, ◌++◌, map, leb, ltb, eqb, length, if◌then◌else◌}
 use Rattle.std.proofs.Math.Option.{Option, none, some}
 use Rattle.rules.specs.Basics.{Result, accept, refuse, unless, every, some_of, is_there, or_else}
-use Rattle.rules.specs.Values.{most_nodes, Event, Key, Class, Any, Fallthrough, same_event, Repeat, Once, Min, Max, Part, Step}
+use Rattle.rules.specs.Values.{most_nodes, Event, Key, Class, Any, Fallthrough, same_event, Repeat, Once, Min, Max, Part, Step, Binding, Maps, Prefixes}
 use Rattle.rules.specs.Tables.{ClassEntry}
 use Rattle.rules.specs.Graph.{events_of}
 use Rattle.rules.specs.KeyLoop.{InputResult, ClearTrail, NeedMore, Unmapped, RunStep, Turn, Navigator}
-use Rattle.rules.specs.Calls.{Kind, Call, Open, Map, Prefix, Press, Pop, Repeats, Reset}
+use Rattle.rules.specs.Calls.{Kind, Call, Open, Map, Prefix, Press, Pop, Repeats, Reset, Change}
 
 -- an accepted mapping with a non-empty path
 pub record Mapping : Type 0 where
@@ -138,7 +138,8 @@ map_list mode (p ∷ ps) s xs =
 abbrev pub list_kind : Kind
 list_kind = record { Bindings = List Mapping; Place = Place; none_yet = []; map_in = map_list; prefix_in = λ mode ps s xs. accept xs; navigator = list_navigator }
 
--- ---- the calls of demand 3: each part of a mapping is a key, a class or any-key taken once, and there is no prefix
+-- ---- the calls of demand 3: each part of a mapping is a key, a class or any-key taken once, and there is no prefix; so too among
+-- the bindings of a change
 
 unfoldable pub plain_part : Repeat → Event → Bool
 plain_part Once (Key k) = true
@@ -148,16 +149,21 @@ plain_part Once Fallthrough = false
 plain_part (Min n) e = false
 plain_part (Max n) e = false
 
+unfoldable pub plain_binding : Binding → Bool
+plain_binding (Maps mode path s) = every (λ p. plain_part p.repeat p.event) path
+plain_binding (Prefixes mode path s) = false
+
 unfoldable pub plain : Call → Bool
 plain (Open t) = true
-plain (Map mode path s) = every (λ p. plain_part p.repeat p.event) path
+plain (Map mode path s) = plain_binding (Maps mode path s)
 plain (Prefix mode path s) = false
 plain (Press i) = true
 plain Pop = true
 plain (Repeats q over) = true
 plain Reset = true
+plain (Change t xs) = every plain_binding xs
 
 -- ---- everything above, to be opened by one name where a run is computed
 unfoldable pub open-ListReader : Unit {0}
-unfolding same_path same_place starts openings_of is_among note note_all openings is_proper_start goes_on last_of exactly_at step_at fall_at first_opening meaning move_to fall_from searched list_navigator mapping_of map_list plain_part plain
+unfolding same_path same_place starts openings_of is_among note note_all openings is_proper_start goes_on last_of exactly_at step_at fall_at first_opening meaning move_to fall_from searched list_navigator mapping_of map_list plain_part plain_binding plain
 open-ListReader = tt
