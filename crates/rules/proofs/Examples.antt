@@ -7,7 +7,7 @@ use mathlib.Core.Option.{none, some}
 use mathlib.Core.List.{List, [], ◌∷◌, ◌++◌, map}
 use lib.ListN.{replicate}
 use Rattle.rules.specs.Basics.{Result, accept, refuse, ◌>>=◌, open-Basics}
-use Rattle.rules.specs.Values.{Event, Key, Class, Any, Fallthrough, Min, Part, Step, default_step, Binding, Maps, Prefixes, pair, open-Values}
+use Rattle.rules.specs.Values.{Event, Key, Class, Any, Fallthrough, Min, Step, default_step, Binding, Maps, Prefixes, pair, open-Values}
 use Rattle.rules.specs.Tables.{ClassEntry, no_entry, Tables, no_tables, open-Tables}
 use Rattle.rules.specs.Graph.{Edge, Follow, Successor, FallsTo, NoSuccessor, open-Graph}
 use Rattle.rules.specs.OnePass.{better, open-OnePass}
@@ -17,7 +17,7 @@ use Rattle.rules.specs.Numbers.{number, open-Numbers}
 use Rattle.rules.specs.MapFile.{read_map, open-MapFile}
 use Rattle.rules.specs.Run.{pair_bytes, run, code_of, output_of, keyplay, open-Run}
 use Rattle.rules.specs.Writing.{file_of, write_call, open-Writing}
-use Rattle.rules.proofs.Table.{Tried, ◌⇒◌, once, one, two, does, key_within, key, rounds, gives, a, b, j, k, q, r, z, digits, tracking, doubles, Row, row, try_all, step_held, outcome}
+use Rattle.rules.proofs.Table.{Tried, ◌⇒◌, part, once, one, two, three, does, key_within, key, rounds, gives, in_a_row, a, b, j, k, q, r, z, digits, tracking, doubles, Row, row, try_all, step_held, outcome}
 
 -- ---- runs of calls
 
@@ -135,17 +135,14 @@ the_count_overflows = row (
     ∷ key r ⇒ rounds 1
     ∷ Pop ⇒ gives 7 7000 0
     ∷ replicate 9 (key 48 ⇒ rounds 1)
-    ++ (key 54 ⇒ rounds 1
-    ∷ key 53 ⇒ rounds 1
-    ∷ key 53 ⇒ rounds 1
-    ∷ key 51 ⇒ rounds 1
-    ∷ key 54 ⇒ PressRefused 12 1
+    ++ (in_a_row (54 ∷ 53 ∷ 53 ∷ 51 ∷ [])
+    ++ (key 54 ⇒ PressRefused 12 1
     ∷ key 53 ⇒ rounds 1
     ∷ key 48 ⇒ PressRefused 12 1
     ∷ key r ⇒ rounds 1
     ∷ Pop ⇒ gives 7 65535 0
     ∷ Pop ⇒ Nothing
-    ∷ [])))
+    ∷ []))))
 
 -- with 65,535 counted, a digit that goes by its Key edge or by another class is no digit of the count
 abbrev pub digits_that_do_not_count : Row
@@ -155,37 +152,27 @@ digits_that_do_not_count = row (
     ∷ Prefix 0 (one (Class 1)) none ⇒ Accepted
     ∷ Prefix 0 (one (Key 52)) none ⇒ Accepted
     ∷ Map 0 (one (Key r)) (does 7) ⇒ Accepted
-    ∷ key 54 ⇒ rounds 1
-    ∷ key 53 ⇒ rounds 1
-    ∷ key 53 ⇒ rounds 1
-    ∷ key 51 ⇒ rounds 1
-    ∷ key 53 ⇒ rounds 1
-    ∷ key 50 ⇒ rounds 1
-    ∷ key 52 ⇒ rounds 1
-    ∷ key 48 ⇒ PressRefused 12 1
+    ∷ in_a_row (54 ∷ 53 ∷ 53 ∷ 51 ∷ 53 ∷ 50 ∷ 52 ∷ [])
+    ++ (key 48 ⇒ PressRefused 12 1
     ∷ key r ⇒ rounds 1
     ∷ Pop ⇒ gives 7 65535 0
-    ∷ [])
+    ∷ []))
 
 -- 64 digits are on the trail and all may need more: a zero with a count of 65,535 is 12, and with one of 0 it is 7
 abbrev pub an_overflow_before_a_full_trail : Row
 an_overflow_before_a_full_trail = row (
     Open digits ⇒ Accepted
-    ∷ Map 0 (record { repeat = Min 0; event = Class 0 } ∷ once (Key r) ∷ []) (does 7) ⇒ Accepted
+    ∷ Map 0 (part (Min 0) (Class 0) ∷ once (Key r) ∷ []) (does 7) ⇒ Accepted
     ∷ key 48 ⇒ rounds 2
     ∷ replicate 58 (key 48 ⇒ rounds 1)
-    ++ (key 54 ⇒ rounds 1
-    ∷ key 53 ⇒ rounds 1
-    ∷ key 53 ⇒ rounds 1
-    ∷ key 51 ⇒ rounds 1
-    ∷ key 53 ⇒ rounds 1
-    ∷ key 48 ⇒ PressRefused 12 1
+    ++ (in_a_row (54 ∷ 53 ∷ 53 ∷ 51 ∷ 53 ∷ [])
+    ++ (key 48 ⇒ PressRefused 12 1
     ∷ key r ⇒ rounds 1
     ∷ Pop ⇒ gives 7 65535 0
     ∷ key 48 ⇒ rounds 2
     ∷ replicate 63 (key 48 ⇒ rounds 1)
     ++ (key 48 ⇒ PressRefused 7 1
-    ∷ [])))
+    ∷ []))))
 
 -- 7000 counts, and the fifth digit would give 7. It is refused before the pair is given, and so is every other digit. With 256
 -- pairs waiting it is 12 still, where r, which gives 8, is 5
@@ -298,7 +285,7 @@ the_unmapped_list_of_the_nodes_mode = row (
 -- 64 keys need more, and one more is 7
 abbrev pub a_trail_of_64 : Row
 a_trail_of_64 = row (
-    Map 0 (record { repeat = Min 0; event = Key a } ∷ once (Key b) ∷ []) (does 1) ⇒ Accepted
+    Map 0 (part (Min 0) (Key a) ∷ once (Key b) ∷ []) (does 1) ⇒ Accepted
     ∷ key a ⇒ rounds 2
     ∷ replicate 63 (key a ⇒ rounds 1)
     ++ (key a ⇒ PressRefused 7 1
@@ -373,9 +360,6 @@ enters m = record { flag = false; actions = []; next = some m; fallthrough = non
 abbrev pub falls_to : ℕ → Step
 falls_to m = record { flag = false; actions = []; next = none; fallthrough = some m; mark = none }
 
-abbrev pub three : Event → Event → Event → List Part
-three e f g = once e ∷ once f ∷ once g ∷ []
-
 -- j needs more in the old map and in the new one, whose jj the next j completes. The pair of q still waits, in front
 abbrev pub a_change_walks_the_trail : Row
 a_change_walks_the_trail = row (
@@ -424,9 +408,9 @@ a_trail_of_two_runs = row (
 -- a falls from the root and then needs more. On the walk of the same map it falls, and is lost: b, too, falls from the root again
 abbrev pub a_key_that_had_fallen : Row
 a_key_that_had_fallen = row (
-    Map 0 (record { repeat = Min 0; event = Key a } ∷ once (Key b) ∷ []) (does 1) ⇒ Accepted
+    Map 0 (part (Min 0) (Key a) ∷ once (Key b) ∷ []) (does 1) ⇒ Accepted
     ∷ key a ⇒ rounds 2
-    ∷ Change no_tables (Maps 0 (record { repeat = Min 0; event = Key a } ∷ once (Key b) ∷ []) (does 1) ∷ []) ⇒ Accepted
+    ∷ Change no_tables (Maps 0 (part (Min 0) (Key a) ∷ once (Key b) ∷ []) (does 1) ∷ []) ⇒ Accepted
     ∷ key b ⇒ rounds 2
     ∷ Pop ⇒ gives 1 0 0
     ∷ Pop ⇒ Nothing
@@ -488,23 +472,19 @@ b_falls_to_a_step = half_typed_then (Maps 0 (two (Key a) Fallthrough) (does 2) �
     ∷ Pop ⇒ Nothing
     ∷ [])
 
--- where it falls to an empty node or to a root, from which it would need more: j is unmapped at the root, and gives no 2
+-- the place is the root, where j has no edge
+abbrev pub j_is_unmapped : List Tried
+j_is_unmapped = key j ⇒ rounds 1 ∷ Pop ⇒ gives 0 0 0 ∷ Pop ⇒ Nothing ∷ []
+
+-- so it is where b falls to an empty node or to a root, from which it would need more: j gives no 2
 abbrev pub b_falls_to_a_node : Row
-b_falls_to_a_node = half_typed_then (Maps 0 (once (Key a) ∷ once Fallthrough ∷ once (Key b) ∷ once (Key j) ∷ []) (does 2) ∷ []) (
-    key j ⇒ rounds 1
-    ∷ Pop ⇒ gives 0 0 0
-    ∷ Pop ⇒ Nothing
-    ∷ [])
+b_falls_to_a_node = half_typed_then (Maps 0 (once (Key a) ∷ once Fallthrough ∷ once (Key b) ∷ once (Key j) ∷ []) (does 2) ∷ []) j_is_unmapped
 
 abbrev pub b_falls_to_a_root : Row
 b_falls_to_a_root = half_typed_then (
     Maps 0 (one (Key a)) (record { flag = true; actions = []; next = none; fallthrough = some 1; mark = none })
     ∷ Maps 1 (two (Key b) (Key j)) (does 2)
-    ∷ []) (
-    key j ⇒ rounds 1
-    ∷ Pop ⇒ gives 0 0 0
-    ∷ Pop ⇒ Nothing
-    ∷ [])
+    ∷ []) j_is_unmapped
 
 -- z enters mode 1. The trail is walked from the root of mode 1, and that root is the place where j is lost
 abbrev pub a_change_in_mode_1 : Row
@@ -561,15 +541,12 @@ the_walk_runs_no_hook = row (
     Open digits ⇒ Accepted
     ∷ Prefix 0 (one (Class 0)) none ⇒ Accepted
     ∷ Map 0 (once (Key j) ∷ once (Class 0) ∷ once Any ∷ once (Key b) ∷ []) (does 1) ⇒ Accepted
-    ∷ key 53 ⇒ rounds 1
-    ∷ key j ⇒ rounds 1
-    ∷ key 52 ⇒ rounds 1
-    ∷ key q ⇒ rounds 1
-    ∷ Change digits (Maps 0 (once Any ∷ once (Class 0) ∷ once (Key q) ∷ once (Key b) ∷ []) (does 2) ∷ []) ⇒ Accepted
+    ∷ in_a_row (53 ∷ j ∷ 52 ∷ q ∷ [])
+    ++ (Change digits (Maps 0 (once Any ∷ once (Class 0) ∷ once (Key q) ∷ once (Key b) ∷ []) (does 2) ∷ []) ⇒ Accepted
     ∷ key b ⇒ rounds 1
     ∷ Pop ⇒ gives 2 54 113
     ∷ Pop ⇒ Nothing
-    ∷ [])
+    ∷ []))
 
 -- with 65,535 counted, 5 goes by its Key edge onto the trail; on the walk it goes by class 0, and is no 12
 abbrev pub no_overflow_on_the_walk : Row
@@ -577,18 +554,12 @@ no_overflow_on_the_walk = row (
     Open digits ⇒ Accepted
     ∷ Prefix 0 (one (Class 0)) none ⇒ Accepted
     ∷ Map 0 (three (Key j) (Key 53) (Key b)) (does 1) ⇒ Accepted
-    ∷ key 54 ⇒ rounds 1
-    ∷ key 53 ⇒ rounds 1
-    ∷ key 53 ⇒ rounds 1
-    ∷ key 51 ⇒ rounds 1
-    ∷ key 53 ⇒ rounds 1
-    ∷ key j ⇒ rounds 1
-    ∷ key 53 ⇒ rounds 1
-    ∷ Change digits (Maps 0 (three (Key j) (Class 0) (Key b)) (does 2) ∷ []) ⇒ Accepted
+    ∷ in_a_row (54 ∷ 53 ∷ 53 ∷ 51 ∷ 53 ∷ j ∷ 53 ∷ [])
+    ++ (Change digits (Maps 0 (three (Key j) (Class 0) (Key b)) (does 2) ∷ []) ⇒ Accepted
     ∷ key b ⇒ rounds 1
     ∷ Pop ⇒ gives 2 65535 0
     ∷ Pop ⇒ Nothing
-    ∷ [])
+    ∷ []))
 
 -- 4 has no edge in the new map, so the trail is lost, and its count is not
 abbrev pub a_lost_digit_counts : Row

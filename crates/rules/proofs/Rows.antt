@@ -11,7 +11,7 @@ use lib.Dec.{leb, leb→le, le→leb}
 use lib.ListN.{length, replicate}
 use Rattle.rules.specs.Basics.{accept, refuse, open-Basics}
 use Rattle.rules.specs.Values.{largest, mode_count, class_count, sequence_count, status_count, most_classes, most_actions, most_rules, most_nodes, most_edges, most_parts, most_kept, most_repeats, most_queued, most_tracked, most_trail, composed, first_key}
-use Rattle.rules.specs.Values.{Event, Key, Class, Any, Fallthrough, Repeat, Min, Max, Part, Step, Binding, Maps, Prefixes, default_step, pair, default_pair, open-Values}
+use Rattle.rules.specs.Values.{Key, Class, Any, Fallthrough, Min, Max, Step, Binding, Maps, Prefixes, default_step, pair, default_pair, open-Values}
 use Rattle.rules.specs.Tables.{ClassEntry, ModeEntry, Rule, Tables, no_tables, open-Tables}
 use Rattle.rules.specs.Graph.{NodeAction, Empty, Root, Holds, Node, Graph, fresh_graph, add_node, put_edge, open-Graph}
 use Rattle.rules.specs.KeyLoop.{tracker, no_tracker, open-KeyLoop}
@@ -20,7 +20,7 @@ use Rattle.rules.specs.Numbers.{open-Numbers}
 use Rattle.rules.specs.MapFile.{read_bindings, read_map, open-MapFile}
 use Rattle.rules.specs.Run.{most_output, most_input, play_budget, lines_of, decimal, refusal, text_of, play_input, keyplay, open-Run}
 use Rattle.rules.specs.Writing.{written, file_of, open-Writing}
-use Rattle.rules.proofs.Table.{Tried, ◌⇒◌, once, one, two, does, key, key_within, rounds, gives, a, b, j, q, r, z, Row, row, try_all, step_held, outcome}
+use Rattle.rules.proofs.Table.{Tried, ◌⇒◌, part, once, one, two, three, does, key, key_within, rounds, gives, in_a_row, a, b, j, q, r, z, Row, row, try_all, step_held, outcome}
 use Rattle.rules.proofs.Examples.{mode_16, refusal_of, Bytes, ◌meets◌}
 use Rattle.rules.proofs.Tests.{by_cases, no_way, T-is, is_T}
 
@@ -88,9 +88,6 @@ tables_at_their_limits = row (
     ∷ Open (rules (rule 15 5 5 8 4 ∷ [])) ⇒ Refused 1
     ∷ Open (rules (rule 15 5 5 7 5 ∷ [])) ⇒ Refused 1
     ∷ [])
-
-abbrev pub part : Repeat → Event → Part
-part x e = record { repeat = x; event = e }
 
 -- a step with n actions, a next mode, a fallthrough mode and a mark
 abbrev pub full : ℕ → ℕ → ℕ → ℕ → Step
@@ -199,19 +196,13 @@ count_and_mark = row (
     ∷ Prefix 0 (one Any) none ⇒ Accepted
     ∷ Map 0 (one (Key r)) (does 7) ⇒ Accepted
     ∷ Map 0 (one (Key b)) (record { flag = false; actions = 3 ∷ []; next = none; fallthrough = none; mark = some 9 }) ⇒ Accepted
-    ∷ key 57 ⇒ rounds 1
-    ∷ key z ⇒ rounds 1
-    ∷ key 48 ⇒ rounds 1
-    ∷ key 47 ⇒ rounds 1
-    ∷ key 58 ⇒ rounds 1
-    ∷ key 50 ⇒ rounds 1
-    ∷ key r ⇒ rounds 1
-    ∷ Pop ⇒ gives 7 90 122
+    ∷ in_a_row (57 ∷ z ∷ 48 ∷ 47 ∷ 58 ∷ 50 ∷ r ∷ [])
+    ++ (Pop ⇒ gives 7 90 122
     ∷ key 52 ⇒ rounds 1
     ∷ key b ⇒ rounds 1
     ∷ Pop ⇒ gives 3 4 9
     ∷ Pop ⇒ Nothing
-    ∷ [])
+    ∷ []))
 
 -- 32,768 is 27 and 0, and 32,767 is a key
 abbrev pub the_least_key_that_decomposes : Row
@@ -229,7 +220,7 @@ the_least_key_that_decomposes = row (
 -- of the trail a b the first key is given up and b tried again, before the key in hand
 abbrev pub the_trail_in_order : Row
 the_trail_in_order = row (
-    Map 0 (once (Key a) ∷ once (Key b) ∷ once (Key j) ∷ []) (does 1) ⇒ Accepted
+    Map 0 (three (Key a) (Key b) (Key j)) (does 1) ⇒ Accepted
     ∷ Map 0 (one (Key b)) (does 2) ⇒ Accepted
     ∷ key a ⇒ rounds 1
     ∷ key b ⇒ rounds 1
@@ -300,11 +291,8 @@ reset_after_two_of_a =
 abbrev pub at_least_twice : Row
 at_least_twice = row (
     Map 0 (part (Min 2) (Key a) ∷ once (Key b) ∷ []) (does 1) ⇒ Accepted
-    ∷ key a ⇒ rounds 1
-    ∷ key a ⇒ rounds 1
-    ∷ key a ⇒ rounds 1
-    ∷ key b ⇒ rounds 1
-    ∷ Pop ⇒ gives 1 0 0
+    ∷ in_a_row (a ∷ a ∷ a ∷ b ∷ [])
+    ++ (Pop ⇒ gives 1 0 0
     ∷ key a ⇒ rounds 1
     ∷ key a ⇒ rounds 1
     ∷ key q ⇒ rounds 2
@@ -314,7 +302,7 @@ at_least_twice = row (
     ∷ key b ⇒ rounds 2
     ∷ Pop ⇒ gives 0 0 0
     ∷ Pop ⇒ gives 0 0 0
-    ∷ reset_after_two_of_a)
+    ∷ reset_after_two_of_a))
 
 -- Any number of a, then b: the root falls to the node of the repeats, and that to the step, so a q runs it again and again
 abbrev pub none_or_more : Row
@@ -591,10 +579,10 @@ hints s (c ∷ cs) = let r = call graph_kind s c in (r.1, hint r.0.bindings) ∷
 
 -- a path of two keys, and one that goes on
 abbrev pub two_keys : Call
-two_keys = Map 3 (once (Key a) ∷ once (Key b) ∷ []) (does 1)
+two_keys = Map 3 (two (Key a) (Key b)) (does 1)
 
 abbrev pub three_keys : Call
-three_keys = Map 3 (once (Key a) ∷ once (Key b) ∷ once (Key j) ∷ []) (does 1)
+three_keys = Map 3 (three (Key a) (Key b) (Key j)) (does 1)
 
 -- a mode, a number and a count out of range; a key and a pop; and an open
 abbrev pub behind_shown : List Call

@@ -7,7 +7,7 @@ use mathlib.Core.Option.{Option, none, some}
 use mathlib.Core.List.{List, [], ◌∷◌, ◌++◌, map}
 use lib.ListN.{replicate}
 use Rattle.rules.specs.Basics.{open-Basics}
-use Rattle.rules.specs.Values.{Event, Key, Class, Fallthrough, Once, Min, Part, Step, pair, open-Values}
+use Rattle.rules.specs.Values.{Event, Key, Class, Fallthrough, Repeat, Once, Min, Part, Step, pair, open-Values}
 use Rattle.rules.specs.Tables.{Tables, no_tables, open-Tables}
 use Rattle.rules.specs.Graph.{NodeAction, Empty, Root, Holds, get_node, open-Graph}
 use Rattle.rules.specs.KeyLoop.{open-KeyLoop}
@@ -27,15 +27,22 @@ pub record Tried : Type 0 where
 abbrev pub ◌⇒◌ : Call → Answer → Tried
 ◌⇒◌ c x = record { asked = c; answered = x }
 
--- a path of one part, and one of two
-abbrev pub once : Event → Part
-once e = record { repeat = Once; event = e }
+-- a part of a path, and one that is taken once
+abbrev pub part : Repeat → Event → Part
+part x e = record { repeat = x; event = e }
 
+abbrev pub once : Event → Part
+once e = part Once e
+
+-- a path of one part, of two and of three
 abbrev pub one : Event → List Part
 one e = once e ∷ []
 
 abbrev pub two : Event → Event → List Part
 two e f = once e ∷ once f ∷ []
+
+abbrev pub three : Event → Event → Event → List Part
+three e f g = once e ∷ once f ∷ once g ∷ []
 
 -- a step with one action
 abbrev pub does : ℕ → Step
@@ -53,6 +60,10 @@ rounds n = Pressed n
 
 abbrev pub gives : ℕ → ℕ → ℕ → Answer
 gives x count mark = Popped (pair x count mark)
+
+-- keys one after another, of which each takes a round
+abbrev pub in_a_row : List ℕ → List Tried
+in_a_row ks = map (λ x. key x ⇒ rounds 1) ks
 
 -- keys by their letters
 abbrev pub a : ℕ
@@ -137,7 +148,7 @@ E3 = row (doubles ++ (key j ⇒ rounds 1 ∷ key_within 1 k ⇒ PressRefused 8 1
 -- E4: mapping Min(0) a, key q on a fresh queue: budget 256 gives 8, and 257 gives 5
 abbrev pub E4 : Row
 E4 = row (
-    Map 0 (record { repeat = Min 0; event = Key a } ∷ []) (does 1) ⇒ Accepted
+    Map 0 (part (Min 0) (Key a) ∷ []) (does 1) ⇒ Accepted
     ∷ key_within 256 q ⇒ PressRefused 8 256
     ∷ key_within 257 q ⇒ PressRefused 5 257
     ∷ Pop ⇒ Nothing
