@@ -15,8 +15,8 @@ enum { BUDGET = 1000, MOST_FRAMED = 1048576, MOST_INPUT = 65536, MOST_OUTPUT = 6
 static uint8_t framed[MOST_FRAMED + 1];
 static uint8_t output[MOST_OUTPUT];
 
-/* Is there a number at *at, before the end? Then *at is moved behind it. */
-static int read_number(const uint8_t *bytes, size_t end, size_t *at, unsigned *value) {
+/* Is there a number up to the largest at *at, before the end? Then *at is moved behind it. */
+static int read_number_to(unsigned largest, const uint8_t *bytes, size_t end, size_t *at, unsigned *value) {
     unsigned sum = 0;
     unsigned shift = 0;
     uint8_t byte;
@@ -28,7 +28,11 @@ static int read_number(const uint8_t *bytes, size_t end, size_t *at, unsigned *v
         shift += 7;
     } while (byte >= 0x80);
     *value = sum;
-    return sum <= 65535 && (byte != 0 || shift == 7);
+    return sum <= largest && (byte != 0 || shift == 7);
+}
+
+static int read_number(const uint8_t *bytes, size_t end, size_t *at, unsigned *value) {
+    return read_number_to(65535, bytes, end, at, value);
 }
 
 static int refused(unsigned number) {
@@ -36,16 +40,24 @@ static int refused(unsigned number) {
     return 1;
 }
 
-/* Prints the numbers of the output, three to a line. Is it whole pairs? */
+/* The count as the run writes it, 0 for none and else count + 1; none is a dash. */
+static void print_pair(unsigned action, unsigned count, unsigned mark) {
+    if (count == 0)
+        printf("%u - %u\n", action, mark);
+    else
+        printf("%u %u %u\n", action, count - 1, mark);
+}
+
+/* Prints the pairs of the output, each on a line. Is it whole pairs? */
 static int print_pairs(size_t length) {
     size_t at = 0;
     printf("action count mark\n");
     while (at < length) {
         unsigned action, count, mark;
-        if (!read_number(output, length, &at, &action) || !read_number(output, length, &at, &count) ||
+        if (!read_number(output, length, &at, &action) || !read_number_to(65536, output, length, &at, &count) ||
             !read_number(output, length, &at, &mark))
             return 0;
-        printf("%u %u %u\n", action, count, mark);
+        print_pair(action, count, mark);
     }
     return 1;
 }

@@ -20,18 +20,26 @@ static const uint8_t map[] = {
 
 static const uint8_t keys[] = {'4', '2', 'r', 'z'};
 
-/* What was popped, three numbers a pair. */
+/* What was popped, three numbers a pair as a run writes them: a count that was typed is count + 1, and none is 0. */
 static unsigned popped[3 * MOST_PAIRS];
 static size_t numbers;
+
+/* As keyplay prints a pair: with a dash where no count was typed. */
+static void print_pair(uint64_t pair) {
+    if (KEYMAP_TYPED(pair))
+        printf("%u %u %u\n", KEYMAP_ACTION(pair), KEYMAP_COUNT(pair), KEYMAP_MARK(pair));
+    else
+        printf("%u - %u\n", KEYMAP_ACTION(pair), KEYMAP_MARK(pair));
+}
 
 /* Pops until nothing waits, and prints each pair. */
 static void pop_all(keymap_machine *machine) {
     uint64_t pair = keymap_pop(machine);
     while (KEYMAP_WAITS(pair) && numbers < 3 * MOST_PAIRS) {
         popped[numbers++] = KEYMAP_ACTION(pair);
-        popped[numbers++] = KEYMAP_COUNT(pair);
+        popped[numbers++] = KEYMAP_TYPED(pair) ? KEYMAP_COUNT(pair) + 1 : 0;
         popped[numbers++] = KEYMAP_MARK(pair);
-        printf("%u %u %u\n", KEYMAP_ACTION(pair), KEYMAP_COUNT(pair), KEYMAP_MARK(pair));
+        print_pair(pair);
         pair = keymap_pop(machine);
     }
 }

@@ -48,6 +48,20 @@ static size_t bytes_of(unsigned value) {
     return value < 128 ? 1 : value < 16384 ? 2 : 3;
 }
 
+/* The bytes of a pair as a run writes it: a count that was typed as count + 1, and 0 for none. */
+static size_t pair_bytes(uint64_t pair) {
+    unsigned count = KEYMAP_TYPED(pair) ? KEYMAP_COUNT(pair) + 1 : 0;
+    return bytes_of(KEYMAP_ACTION(pair)) + bytes_of(count) + bytes_of(KEYMAP_MARK(pair));
+}
+
+/* With a dash where no count was typed. */
+static void print_pair(uint64_t pair) {
+    if (KEYMAP_TYPED(pair))
+        printf("%u %u %u\n", KEYMAP_ACTION(pair), KEYMAP_COUNT(pair), KEYMAP_MARK(pair));
+    else
+        printf("%u - %u\n", KEYMAP_ACTION(pair), KEYMAP_MARK(pair));
+}
+
 /* Room for a machine, right before a page that must not be touched. */
 static keymap_machine *room(void) {
     size_t page = (size_t)sysconf(_SC_PAGESIZE);
@@ -80,7 +94,7 @@ static unsigned press_keys(keymap_machine *machine, size_t key_count, size_t *co
         if (KEYMAP_REFUSAL(result) != KEYMAP_ACCEPTED)
             return KEYMAP_REFUSAL(result);
         while (pair = keymap_pop(machine), KEYMAP_WAITS(pair)) {
-            written += bytes_of(KEYMAP_ACTION(pair)) + bytes_of(KEYMAP_COUNT(pair)) + bytes_of(KEYMAP_MARK(pair));
+            written += pair_bytes(pair);
             if (written > MOST_OUTPUT)
                 return KEYMAP_OUTPUT;
             pairs[(*count)++] = pair;
@@ -111,6 +125,6 @@ int main(void) {
         return refused(refusal);
     printf("action count mark\n");
     for (size_t i = 0; i < pair_count; i++)
-        printf("%u %u %u\n", KEYMAP_ACTION(pairs[i]), KEYMAP_COUNT(pairs[i]), KEYMAP_MARK(pairs[i]));
+        print_pair(pairs[i]);
     return 0;
 }

@@ -73,6 +73,18 @@ static const char *name_of(unsigned action) {
     return "?";
 }
 
+static void print_pair(uint64_t pair, unsigned times) {
+    printf("    %s, ", name_of(KEYMAP_ACTION(pair)));
+    if (KEYMAP_TYPED(pair))
+        printf("count %u", KEYMAP_COUNT(pair));
+    else
+        printf("no count");
+    printf(", mark %u", KEYMAP_MARK(pair));
+    if (times > 1)
+        printf(", %u times", times);
+    printf("\n");
+}
+
 /* Does what the keys asked for: here it prints the pairs, and equal ones in one line. */
 static void do_waiting(void) {
     uint64_t pair = keymap_pop(machine);
@@ -81,10 +93,7 @@ static void do_waiting(void) {
         unsigned times = 1;
         for (; next == pair; next = keymap_pop(machine))
             times++;
-        printf("    %s, count %u, mark %u", name_of(KEYMAP_ACTION(pair)), KEYMAP_COUNT(pair), KEYMAP_MARK(pair));
-        if (times > 1)
-            printf(", %u times", times);
-        printf("\n");
+        print_pair(pair, times);
         pair = next;
     }
 }
@@ -185,9 +194,9 @@ int main(void) {
     /* Pick 42 pieces, and put them into bin A. */
     press_all("42pbA");
 
-    /* The same again; then the same with 7 pieces, which is also what a further repeat gives. */
+    /* The same again; then the same with 7 pieces, told as 7 + 1, which is also what a further repeat gives. */
     tell("repeat", keymap_repeat(machine, 0));
-    tell("repeat over count 7", keymap_repeat_over(machine, 0, 7, 0));
+    tell("repeat over count 7", keymap_repeat_over(machine, 0, 7 + 1, 0));
     tell("repeat", keymap_repeat(machine, 0));
     tell("repeat sequence 8", keymap_repeat(machine, 8));
 

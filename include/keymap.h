@@ -3,7 +3,7 @@
  *
  * The firmware keeps a machine and opens it with a map. Then it presses each key of the clerk and pops the pairs that the
  * key gave. A new map may come at any time. examples/shift.c is a whole shift. What was bound since the map came is sent back as
- * a map: examples/shelf.c.
+ * a map: examples/shelf.c. Zero pieces and no count are two things: examples/empty.c.
  *
  *   key       What the clerk presses, 0 to 65,535; one from 32,768 on that nothing is bound to is tried as 27 and the rest.
  *   class     A number, 0 to 255, by which a binding names all keys of some ranges.
@@ -11,7 +11,9 @@
  *   binding   A path of keys in a mode, and what it does: actions, another mode, a mark.
  *   map       The classes, modes, rules and bindings of a machine as bytes, laid out as docs/KEYMAPS.md says.
  *   action    What the firmware is to do, by a number that is agreed between the map and the firmware.
- *   count     The number that was typed before an action, at most 65,535 (a digit past that is refused); 0 if none was.
+ *   count     The number that was typed before an action, at most 65,535 (a digit past that is refused). A 0 may be typed, for an
+ *             empty shelf, and is not the same as no count. keymap_repeat_over takes and keymap_run writes a count as
+ *             count + 1, and 0 for none.
  *   mark      The key that a path took as "any key", or the number that a binding sets; 0 if neither.
  *   pair      An action with its count and its mark, which waits until it is popped.
  *   sequence  One of 8 lists, 0 to 7, of at most 64 pairs that the map's rules track, kept to be repeated.
@@ -139,7 +141,8 @@ uint64_t keymap_key(keymap_machine *machine, uint16_t key, uint16_t budget);
 
 /*
  * Takes the first pair that waits. Never refused.
- * The result is 0 if none waits, else the pair: action + count * 2^16 + mark * 2^32 + 2^48.
+ * The result is 0 if none waits, else the pair: action + count * 2^16 + mark * 2^32 + 2^48 + typed * 2^49. Typed is 1 if a count
+ * was typed, which may be 0; else it is 0, and so is the count.
  */
 uint64_t keymap_pop(keymap_machine *machine);
 
@@ -147,6 +150,7 @@ uint64_t keymap_pop(keymap_machine *machine);
 #define KEYMAP_ACTION(result) ((unsigned)((result) & 0xffff))
 #define KEYMAP_COUNT(result) ((unsigned)((result) >> 16 & 0xffff))
 #define KEYMAP_MARK(result) ((unsigned)((result) >> 32 & 0xffff))
+#define KEYMAP_TYPED(result) ((unsigned)((result) >> 49 & 1))
 
 /*
  * Puts the pairs of a sequence before those that wait. They are not tracked again.
@@ -155,8 +159,9 @@ uint64_t keymap_pop(keymap_machine *machine);
 uint64_t keymap_repeat(keymap_machine *machine, uint16_t sequence);
 
 /*
- * The same with another count and another mark in every pair, each unless it is 0. The sequence keeps the pairs so.
- * The result is the refusal: RANGE (a sequence over 7, a count over 65,535) or QUEUE.
+ * The same with another count and another mark in every pair, each unless 0 is given. The count is given as count + 1, so 1 is
+ * zero pieces, and 0 leaves each pair the count that it has, or none. The sequence keeps the pairs so.
+ * The result is the refusal: RANGE (a sequence over 7, a number over 65,536 for the count) or QUEUE.
  */
 uint64_t keymap_repeat_over(keymap_machine *machine, uint16_t sequence, uint32_t count, uint16_t mark);
 
@@ -212,10 +217,11 @@ uint64_t keymap_write(const keymap_machine *machine, uint8_t *output, size_t out
 
 /*
  * Plays keys on a fresh machine of its own: reads the map, then all keys, presses each with the budget, and writes the pairs
- * after each to the output: action, count and mark. Keys and output are numbers as in a map: groups of seven bits, lowest
- * first, 0x80 set on all but the last. At most the first 65,536 bytes of the output are used.
+ * after each to the output: action, count and mark. The count is written as 0 if none was typed, else as count + 1, so it is up to
+ * 65,536. Keys and output are numbers as in a map: seven bits to a byte, the lowest first, and 0x80 set on each byte but the last.
+ * No more of the output is used than its first 65,536 bytes.
  * The result is length * 32 + refusal: any of 1 to 12. So many bytes were written, and the output behind them stays; refused,
- * the length is 0 and the whole output is zeros.
+ * the length is 0 and every byte of the output is 0.
  */
 uint64_t keymap_run(
     const uint8_t *map, size_t map_count,

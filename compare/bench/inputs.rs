@@ -144,14 +144,14 @@ pub fn put_numbers(ns: &[u16], out: &mut Vec<u8>) {
 }
 
 /// All numbers of good bytes.
-pub fn numbers(bytes: &[u8]) -> Vec<u16> {
+pub fn numbers(bytes: &[u8]) -> Vec<u32> {
     let mut out = vec![];
     let (mut value, mut shift) = (0u32, 0);
     for b in bytes {
         value |= ((b & 0x7F) as u32) << shift;
         shift += 7;
         if *b < 0x80 {
-            out.push(value as u16);
+            out.push(value);
             (value, shift) = (0, 0);
         }
     }

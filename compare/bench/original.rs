@@ -59,6 +59,7 @@ impl InputKeyClass<Key> for Class {
 #[derive(Clone, Copy, Debug, Default, PartialEq)]
 struct Context {
     count: u16,
+    typed: bool,
     mark: u16,
 }
 
@@ -75,8 +76,11 @@ impl InputState for Context {
     }
 
     fn merge(original: Context, overrides: &Context) -> Context {
-        let of = |over, old| if over != 0 { over } else { old };
-        Context { count: of(overrides.count, original.count), mark: of(overrides.mark, original.mark) }
+        Context {
+            count: if overrides.typed { overrides.count } else { original.count },
+            typed: original.typed || overrides.typed,
+            mark: if overrides.mark != 0 { overrides.mark } else { original.mark },
+        }
     }
 }
 
@@ -87,6 +91,7 @@ impl InputKeyState<Key, Class> for Context {
             EdgeEvent::Class(Class(0)) if DIGITS.contains(&key.0) => {
                 let count = self.count as u32 * 10 + (key.0 - DIGITS.start()) as u32;
                 self.count = count.min(65_535) as u16;
+                self.typed = true;
             },
             EdgeEvent::Any => self.mark = key.0,
             _ => {},
@@ -170,7 +175,7 @@ impl Original {
         for &key in keys {
             self.0.input_key(Key(key));
             while let Some((action, context)) = self.0.pop() {
-                sum.add(action, context.count, context.mark);
+                sum.add(action, context.typed.then_some(context.count), context.mark);
             }
         }
         sum

@@ -30,7 +30,7 @@ pub fn sum_of_run(result: u64, output: &[u8]) -> Result<Sum, u64> {
     }
     let mut sum = Sum::default();
     for pair in numbers(&output[..(result / 32) as usize]).chunks(3) {
-        sum.add(pair[0], pair[1], pair[2]);
+        sum.add_written([pair[0], pair[1], pair[2]]);
     }
     Ok(sum)
 }
@@ -176,7 +176,8 @@ pub mod lent {
                     if pair == 0 {
                         break;
                     }
-                    sum.add(pair as u16, (pair >> 16) as u16, (pair >> 32) as u16);
+                    let count = (pair >> 49 & 1 == 1).then_some((pair >> 16) as u16);
+                    sum.add(pair as u16, count, (pair >> 32) as u16);
                 }
             }
             sum

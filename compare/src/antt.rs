@@ -72,7 +72,7 @@ fn tables(t: &Tables) -> String {
 }
 
 fn context(c: &Context) -> String {
-    format!("(context {} {})", c.count, c.mark)
+    format!("(context {} {} {})", c.count, c.typed, c.mark)
 }
 
 fn call(c: &Call) -> String {
@@ -98,7 +98,7 @@ fn binding(c: &Call) -> String {
 }
 
 fn pair(p: &Pair) -> String {
-    format!("pair {} {} {}", p.action, p.context.count, p.context.mark)
+    format!("pair {} {} {} {}", p.action, p.context.count, p.context.typed, p.context.mark)
 }
 
 fn answer(a: Answer) -> String {
@@ -114,7 +114,7 @@ fn answer(a: Answer) -> String {
 
 fn seen(s: &Seen) -> String {
     let (a, c) = (answer(s.answer), s.context);
-    format!("seen {a} {} {} {} {} {}", s.mode, c.count, c.mark, s.queued, numbers(&s.trail))
+    format!("seen {a} {} {} {} {} {} {}", s.mode, c.count, c.typed, c.mark, s.queued, numbers(&s.trail))
 }
 
 // ---- files of rows

@@ -1,6 +1,6 @@
 //! Numbers as bytes, for the comparison and for the benchmark.
 
-/// Groups of seven bits, lowest first, 0x80 set on all but the last.
+/// Seven bits to a byte, the lowest first, 0x80 set on each byte but the last.
 pub fn put_number(n: u32, out: &mut Vec<u8>) {
     let mut rest = n;
     while rest >= 0x80 {

@@ -90,7 +90,9 @@ fn put_call(call: &Call, out: &mut Vec<u32>) {
         Call::Key { key, budget } => out.extend([3, *key as u32, *budget as u32]),
         Call::Pop => out.push(4),
         Call::Repeat(sequence, None) => out.extend([5, *sequence as u32, 0]),
-        Call::Repeat(sequence, Some(c)) => out.extend([5, *sequence as u32, 1, c.count as u32, c.mark as u32]),
+        Call::Repeat(sequence, Some(c)) => {
+            out.extend([5, *sequence as u32, 1, c.typed as u32, c.count as u32, c.mark as u32]);
+        },
         Call::Reset => out.push(6),
         Call::Change(tables, bindings) => {
             out.push(CHANGE);
@@ -240,9 +242,19 @@ fn note_write(length: usize, room: usize, kept: usize) {
 
 const ODD: &str = "change: with a kind or flag that there is not";
 
-/// What a report shows of such changes even when it is never met: 1 in its turn, and the refusal of a binding before it.
+const ODD_TYPED: &str = "a malformed call: an override whose count is neither typed nor not";
+const ODD_KIND: &str = "a malformed call: of a kind that there is not";
+
+/// What a report shows of such changes even when it is never met, 1 in its turn and the refusal of a binding before it; and of
+/// such an override and such a call.
 pub fn expect_odd() {
     [1, 2, 3, 4, 11].iter().for_each(|n| expect_named(format!("{ODD}: refused {n}")));
+    [ODD_TYPED, ODD_KIND].iter().for_each(|what| expect_named((*what).into()));
+}
+
+/// Whether the bytes are a whole repeat but for that.
+fn has_odd_typed(bytes: &[u8]) -> bool {
+    matches!(bytes, [5, _, 1, 2..=127, _, _, ..])
 }
 
 /// What a list comes to.
@@ -360,8 +372,10 @@ fn answer(both: &mut Both, item: &Item) -> Result<String, String> {
             met_named(format!("{ODD}: refused {refusal}"));
             format!("refused {refusal} mode {}", both.model.mode())
         },
-        Item::Malformed(_) => {
+        Item::Malformed(bytes) => {
             met_named("a malformed call: refused 9".into());
+            met_named_if(has_odd_typed(bytes), ODD_TYPED);
+            met_named_if(matches!(bytes[..], [11..=127, ..]), ODD_KIND);
             "refused 9".into()
         },
     })

@@ -31,9 +31,11 @@ pub struct Step {
     pub mark: Option<u16>,
 }
 
+/// `typed` says whether the count was: a 0 may be typed too.
 #[derive(Clone, Copy, Debug, Default, PartialEq)]
 pub struct Context {
     pub count: u16,
+    pub typed: bool,
     pub mark: u16,
 }
 
@@ -80,7 +82,7 @@ pub enum Call {
     Change(Tables, Vec<Call>),
 }
 
-/// (action, count, mark)
+/// (action, count, mark), the count typed or not
 #[derive(Clone, Copy, Debug, PartialEq)]
 pub struct Pair {
     pub action: u16,
@@ -102,7 +104,7 @@ impl std::fmt::Display for Answer {
         match self {
             Answer::Accepted => write!(f, "accepted"),
             Answer::Refused(n) => write!(f, "refused {n}"),
-            Answer::Pair(p) => write!(f, "pair {} {} {}", p.action, p.context.count, p.context.mark),
+            Answer::Pair(p) => write!(f, "pair {} {} {}", p.action, p.context.count_text(), p.context.mark),
             Answer::Nothing => write!(f, "nothing"),
             Answer::Rounds(r) => write!(f, "rounds {r}"),
             Answer::RefusedRounds(n, r) => write!(f, "refused {n} rounds {r}"),
@@ -180,10 +182,30 @@ impl Context {
         std::mem::take(self)
     }
 
+    /// The count of `over` if it was typed, and its mark if it is not 0; else the own ones.
     pub fn merge(self, over: Context) -> Context {
         Context {
-            count: if over.count != 0 { over.count } else { self.count },
+            count: if over.typed { over.count } else { self.count },
+            typed: self.typed || over.typed,
             mark: if over.mark != 0 { over.mark } else { self.mark },
+        }
+    }
+
+    /// The count as the run writes it and C gives it: 0 if none was typed, and else one more than it is.
+    pub fn count_number(self) -> u32 {
+        if self.typed {
+            self.count as u32 + 1
+        } else {
+            0
+        }
+    }
+
+    /// The count as the programs print it: a dash if none was typed.
+    pub fn count_text(self) -> String {
+        if self.typed {
+            self.count.to_string()
+        } else {
+            "-".into()
         }
     }
 }

@@ -3,8 +3,9 @@
 
 use crate::bytes::put_number;
 use crate::calls::{Call, Event, ModeEntry, Part, Repeat, Step, Tables};
-use crate::gen::{Gen, Kind};
+use crate::gen::{with_digits, Gen, Kind};
 use crate::mapfile;
+use crate::met::aside;
 use crate::scenes;
 use crate::writing::{bytes_of, file_of, numbers_of};
 
@@ -24,6 +25,9 @@ const EDGES: [u32; 22] =
 /// The case of a seed.
 pub fn case_of(seed: u64) -> Case {
     let mut g = Gen::new(seed, Kind::Usual);
+    if g.random.chance(18) {
+        return typed_counts(&mut g);
+    }
     let tables = g.tables();
     let mut bindings: Vec<Call> = (0..g.random.below(5)).map(|_| g.binding()).collect();
     bindings.extend(refused_bindings(&mut g));
@@ -144,8 +148,28 @@ fn room_for(map: &[u8], keys: &[u8], budget: u16, g: &mut Gen) -> usize {
     if g.random.chance(70) {
         return g.random.pick(&[3000, 10_000]);
     }
-    let length = mapfile::exported(map, keys, budget, &vec![0; 66_000]).map_or(0, |(code, _)| code as usize / 32);
+    room_about(map, keys, budget, g)
+}
+
+/// Room for what the run writes, or for a byte less or more.
+fn room_about(map: &[u8], keys: &[u8], budget: u16, g: &mut Gen) -> usize {
+    // the run itself is counted where it is compared
+    let written = aside(|| mapfile::exported(map, keys, budget, &vec![0; 66_000]));
+    let length = written.map_or(0, |(code, _)| code as usize / 32);
     (length + 1).saturating_sub(g.random.below(3) as usize)
+}
+
+/// A few pairs, each with none typed or with a count for which the bytes of a count and of one more are as many or not; and an
+/// output of just enough bytes, or one too few or too many.
+fn typed_counts(g: &mut Gen) -> Case {
+    let numbers = ["", "", "0", "0", "126", "127", "127", "16382", "16383", "16383", "65534", "65535", "65535"];
+    let acted = |g: &mut Gen| [g.random.pick(&numbers).as_bytes(), &[97]].concat();
+    let prefix = Call::Prefix(0, vec![scenes::once(Event::Class(0))], None);
+    let bindings = [prefix, Call::Map(0, scenes::path(&[97]), scenes::does(7))];
+    let map = file_of(&with_digits(Tables::default()), &bindings);
+    let keys = (0..1 + g.random.below(3)).flat_map(|_| acted(g)).collect::<Vec<u8>>();
+    let room = room_about(&map, &keys, 1000, g);
+    Case { map, keys, budget: 1000, lent: vec![0xAA; room] }
 }
 
 /// About as many pairs of four bytes as fill 65,536, four for each key.

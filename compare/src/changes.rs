@@ -1,6 +1,6 @@
 //! A change of map: which of its cases the model met. How the trail is walked is in `walk.rs`, all else in `model.rs`.
 
-use crate::calls::{decompose, digit_of, tables_valid, Answer, Call, Event, Tables};
+use crate::calls::{decompose, digit_of, tables_valid, Answer, Call, Context, Event, Pair, Tables};
 use crate::graph::{limits, Follow, NodeAction, NodeId};
 use crate::met::{aside, expect_all, expect_named, met_named, met_named_if};
 use crate::model::Model;
@@ -90,29 +90,37 @@ fn note_each<const N: usize>(names: &[&str; N], met: [bool; N]) {
 
 // ---- accepted: what passes over, and the maps
 
-const STATES: [&str; 8] = [
+const STATES: [&str; 11] = [
     "change: in a mode other than 0",
     "change: with waiting pairs",
     "change: with 256 waiting pairs",
     "change: with a count",
+    "change: with a typed 0",
     "change: with a mark",
     "change: with remembered pairs",
     "change: with remembered pairs of a broken sequence",
     "change: with remembered pairs of a sequence that the new rules do not name",
+    "change: with a waiting pair that has a typed 0",
+    "change: with a remembered pair that has a typed 0",
 ];
 
 fn note_state(old: &Model, tables: &Tables) {
     let carried = old.carried();
     let remembered = || carried.sequences.iter().filter(|s| !s.pairs.is_empty());
+    let is_zero = |c: Context| c.typed && c.count == 0;
+    let has_zero = |pairs: &[Pair]| pairs.iter().any(|p| is_zero(p.context));
     let met = [
         carried.mode != 0,
         !carried.queue.is_empty(),
         carried.queue.len() == 256,
         carried.context.count != 0,
+        is_zero(carried.context),
         carried.context.mark != 0,
         remembered().next().is_some(),
         remembered().any(|s| s.is_broken),
         remembered().any(|s| tables.rules.iter().all(|r| r.sequence != s.number)),
+        has_zero(&carried.queue),
+        remembered().any(|s| has_zero(&s.pairs)),
     ];
     note_each(&STATES, met);
 }
@@ -156,7 +164,7 @@ fn root_of(model: &Model) -> NodeId {
 
 // ---- the trail
 
-const KEPT: [&str; 16] = [
+const KEPT: [&str; 17] = [
     "change: the trail kept",
     "change: the trail kept, of 64 keys",
     "change: the trail kept, in the very same map",
@@ -165,6 +173,7 @@ const KEPT: [&str; 16] = [
     "change: the trail kept, past a root that holds a flagged step",
     "change: the trail kept, by the new tables' classes alone",
     "change: the trail kept, with a digit by class 0, which does not count",
+    "change: the trail kept, with a digit by class 0, and none was typed",
     "change: the trail kept, with a digit by class 0 that would take the count past 65,535",
     "change: the trail kept, with a key by Any, which sets no mark",
     "change: the trail kept, with a key of 32,768 or more",
@@ -209,7 +218,7 @@ fn note_trail(old: &Model, new: &Model) {
     }
 }
 
-/// The old trail in the new map, from the root of a mode.
+/// The old trail in the new map, from a mode's root.
 fn walked(old: &Model, new: &Model, mode: u16) -> Walk {
     walk(new.graph(), new.tables(), mode as NodeId, old.trail())
 }
@@ -238,6 +247,7 @@ fn note_kept(old: &Model, new: &Model, walk: &Walk, place: NodeId) {
         walk.way.iter().any(|&(_, node)| flagged(node) && node < 16),
         walked_as_before(old, new).end.is_err(),
         keys().any(|(&key, way)| counts(key, way.0).is_some()),
+        !old.context().typed && keys().any(|(&key, way)| counts(key, way.0).is_some()),
         keys().any(|(&key, way)| counts(key, way.0).is_some_and(passes)),
         keys().any(|(&key, way)| way.0 == Event::Any && key != old.context().mark),
         old.trail().iter().any(|&key| decompose(key).is_some()),

@@ -10,7 +10,9 @@ use crate::scenes::{
     usual, Fill, Scene,
 };
 
-pub const SCENES: [Scene; 12] = [
+pub const SCENES: [Scene; 14] = [
+    walked,
+    walked,
     walked,
     walked,
     walked,
@@ -198,7 +200,10 @@ fn mixed(g: &mut Gen, keys: &[u16]) -> Vec<Part> {
 /// entered mode or another.
 fn walked(g: &mut Gen) -> Vec<Call> {
     let (mode, count) = (g.random.pick(&[0, 0, 1, 15]), g.random.pick(&[1, 2, 3, 3, 4]));
-    let keys: Vec<u16> = (0..count).map(|_| g.key()).collect();
+    let mut keys: Vec<u16> = (0..count).map(|_| g.key()).collect();
+    if g.random.chance(15) {
+        keys[0] = 32_768 + 97;
+    }
     let mut calls = vec![Call::Open(wide(1))];
     calls.extend(some_bindings(g, 2));
     calls.push(Call::Map(mode, path(&[&keys[..], &[200]].concat()), g.step()));
@@ -210,7 +215,7 @@ fn walked(g: &mut Gen) -> Vec<Call> {
     }
     let entered = if is_reset { 0 } else { mode };
     let mut bindings = vec![];
-    if g.random.chance(30) {
+    if g.random.chance(50) {
         bindings.push(Call::Map(entered, path(&[27, 205]), does(4)));
     }
     let mut modes = vec![mode, 0];
@@ -249,7 +254,7 @@ fn walked_far(g: &mut Gen) -> Vec<Call> {
     calls
 }
 
-/// A count, digits on the trail by edges that do not count, and a map in which class 0 has them.
+/// A count or none, digits on the trail by edges that do not count, and a map in which class 0 has them.
 fn walked_with_digits(g: &mut Gen) -> Vec<Call> {
     let tables = with_digits(Tables::default());
     let digits: Vec<u16> = (0..1 + g.random.below(3)).map(|_| g.digit()).collect();
@@ -257,7 +262,7 @@ fn walked_with_digits(g: &mut Gen) -> Vec<Call> {
     let counts = Call::Prefix(0, vec![once(Event::Class(0))], None);
     let mut calls =
         vec![Call::Open(tables.clone()), counts, Call::Map(0, path(&[&keys[..], &[200]].concat()), does(1))];
-    let count = g.random.pick(&["7", "42", "6553", "6554", "65535"]);
+    let count = g.random.pick(&["", "", "", "0", "7", "42", "6553", "6554", "65535"]);
     calls.extend(count.bytes().map(|digit| press(digit.into())));
     calls.extend(presses(&keys));
     let event = g.random.pick(&[Event::Class(0), Event::Class(0), Event::Any]);
@@ -338,7 +343,7 @@ fn refused_in_order(g: &mut Gen) -> Vec<Call> {
             _ => too_many_edges(g, &mut fill),
         }
     }
-    calls.push(Call::Change(if g.random.chance(15) { odd_tables() } else { wide(2) }, fill.calls));
+    calls.push(Call::Change(if g.random.chance(25) { odd_tables() } else { wide(2) }, fill.calls));
     calls.extend(presses(&[g.random.pick(&[200, 200, 97])]));
     calls.extend(late_bindings(g));
     calls

@@ -17,6 +17,7 @@ use crate::ours::{self, Programs};
 use crate::play::expect_answers;
 use crate::scenes::list_of;
 use crate::shrink::{smaller_case, smaller_input, smaller_list, smallest};
+use crate::typed;
 
 /// The most bytes of an input of our programs.
 const MOST_INPUT: usize = 65_536;
@@ -36,7 +37,7 @@ impl Contest {
         Contest { programs: Programs::in_folder(folder) }
     }
 
-    /// Lists and cases from a seed on, for some seconds. Whether no difference was met.
+    /// Lists and cases from a seed on, for some seconds. Whether no difference was met, and all that is counted was.
     pub fn run(&self, seconds: u64, first: u64) -> bool {
         expect_met();
         lent::expect_calls();
@@ -48,13 +49,13 @@ impl Contest {
             }
             seed += 1;
         }
-        met::print();
+        let all_met = met::print();
         let turns = seed - first;
         let runs = turns * RUNS_A_LIST;
         println!("{turns} lists on callplay, the same {turns} on a lent machine of the archive by its C functions");
         println!("{runs} runs on the archive, as many changes to their maps, and {turns} inputs of keyplay");
         println!("seeds {first} to {}: no difference in {seconds} seconds", seed - 1);
-        true
+        all_met
     }
 
     /// What a seed stands for, on both sides.
@@ -180,6 +181,7 @@ pub fn expect_met() {
     finds::expect();
     hints::expect();
     changes::expect();
+    typed::expect();
     met::expect_named("run: accepted".into());
     (1..=12).for_each(|n| met::expect_named(format!("run: refused {n:2}")));
     met::expect_named("run: the output is full to its last byte".into());

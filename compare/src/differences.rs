@@ -176,7 +176,7 @@ fn full_graphs() -> Vec<Input> {
 fn full_lists() -> Vec<Input> {
     let a_then_b = vec![map(&[part(Repeat::Min(0), Event::Key(97)), letter('b')], does(1))];
     let repeats = |n| vec![Call::Repeat(0, None); n];
-    let over = vec![Call::Repeat(0, Some(Context { count: 5, mark: 0 })), Call::Pop];
+    let over = vec![Call::Repeat(0, Some(Context { count: 5, typed: true, mark: 0 })), Call::Pop];
     vec![
         input(
             8,
@@ -331,9 +331,9 @@ fn on_the_model(calls: &[Call]) -> String {
 }
 
 fn told(outcomes: Vec<String>, pairs: Vec<Pair>) -> String {
-    let action = |p: &Pair| match p.context.count {
-        0 => p.action.to_string(),
-        count => format!("{} with count {count}", p.action),
+    let action = |p: &Pair| match p.context {
+        Context { typed: false, .. } => p.action.to_string(),
+        Context { count, .. } => format!("{} with count {count}", p.action),
     };
     let popped = match pairs.len() {
         0 => "nothing".into(),

@@ -70,8 +70,9 @@ fn within(budget: u16, key: u8, answer: Answer) -> Tried {
     (Call::Key { key: key as u16, budget }, answer)
 }
 
-fn gives(action: u16, count: u16) -> Tried {
-    (Call::Pop, Answer::Pair(Pair { action, context: Context { count, mark: 0 } }))
+fn gives(action: u16, count: Option<u16>) -> Tried {
+    let context = Context { count: count.unwrap_or(0), typed: count.is_some(), mark: 0 };
+    (Call::Pop, Answer::Pair(Pair { action, context }))
 }
 
 fn nothing() -> Tried {
@@ -103,10 +104,10 @@ pub fn edges() -> Vec<Edge> {
                 key(50, 1),
                 nothing(),
                 key(r, 1),
-                gives(7, 42),
+                gives(7, Some(42)),
                 nothing(),
                 key(z, 1),
-                gives(0, 0),
+                gives(0, None),
                 nothing(),
             ],
             file: Some(&MAP_OF_E1),
@@ -117,10 +118,10 @@ pub fn edges() -> Vec<Edge> {
                 key(106, 1),
                 nothing(),
                 key(107, 2),
-                gives(0, 0),
+                gives(0, None),
                 nothing(),
                 key(107, 1),
-                gives(2, 0),
+                gives(2, None),
                 nothing(),
             ]),
         ),
@@ -147,13 +148,13 @@ pub fn edges() -> Vec<Edge> {
                 map(keys(&[27]), does(1)),
                 map(keys(b"b"), does(2)),
                 key(32_866, 3),
-                gives(1, 0),
-                gives(2, 0),
+                gives(1, None),
+                gives(2, None),
                 nothing(),
             ],
         ),
         edge("E6", vec![map(keys(b"a"), does(1)), prefix(keys(b"a")), key(97, 1), nothing()]),
-        edge("E7", vec![prefix(keys(b"a")), map(keys(b"a"), does(1)), key(97, 1), gives(1, 0), nothing()]),
+        edge("E7", vec![prefix(keys(b"a")), map(keys(b"a"), does(1)), key(97, 1), gives(1, None), nothing()]),
         edge("E8", vec![map(keys(b"a"), falls), (Call::Map(0, behind, does(2)), Answer::Refused(4))]),
         edge("E9", vec![(Call::Repeat(3, None), Answer::Accepted), nothing()]),
         edge(

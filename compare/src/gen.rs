@@ -67,9 +67,12 @@ pub struct Gen {
 
 const KEYS: [u16; 10] = [97, 98, 106, 27, 48, 50, 57, 0, 122, 32_767];
 
-/// Numbers to type: the largest count and one more, a few digits of them, and others that pass it at the fifth digit or later.
-const NUMBERS: [&str; 11] =
-    ["42", "6553", "6554", "9999", "65535", "65536", "65540", "70000", "655350", "655361", "1234567"];
+/// Numbers to type: none, counts of which one more has a byte more, the largest count and one more, a few digits of them, and
+/// others that pass it at the fifth digit or later.
+const NUMBERS: [&str; 14] = [
+    "0", "42", "127", "6553", "6554", "9999", "16383", "65535", "65536", "65540", "70000", "655350", "655361",
+    "1234567",
+];
 
 /// Tables whose class 0 has the digits, before whatever else they have.
 pub fn with_digits(mut tables: Tables) -> Tables {
@@ -348,7 +351,7 @@ impl Gen {
     }
 
     fn override_context(&mut self) -> Context {
-        Context { count: self.random.small(3), mark: self.random.small(3) }
+        Context { count: self.random.small(3), typed: self.random.chance(50), mark: self.random.small(3) }
     }
 
     /// A repeat, now and then two of the same sequence in a row: the second tells whether merged pairs were stored.

@@ -5,24 +5,29 @@
 //!
 //! C gets the tables as a map without bindings, a binding as its bytes, and a change as its map file. Every value that a list can
 //! hold can be said so: one that is out of its range is refused with 1 when it is read, and a count that is too large before
-//! what it counts.
+//! what it counts. But an override whose count is not typed is said as one without a count, which must come to the same.
 
 use crate::bytes::put_number;
 use crate::calllist::{bytes_of_item, differing, file_in, Item, Room};
-use crate::calls::{Call, Tables};
+use crate::calls::{Answer, Call, Context, Pair, Tables};
 use crate::graph::limits;
 use crate::machine::Machine;
 use crate::mapfile::{binding_refusal, bindings_of, map_refusal, tables_refusal};
-use crate::met::{expect_all, expect_named, met_named};
+use crate::met::{expect_all, expect_named, met_named, met_named_if};
+use crate::typed;
 use crate::writing::{file_of, hexadecimal};
 
-/// A count over it is refused.
-const LARGEST: u32 = 65_535;
+/// A count of `repeat_over` over it is refused: it is the number of a typed 65,535.
+const LARGEST: u32 = 65_536;
 
 const CALLS: &str = "C: calls of lists";
 const KEPT: &str = "C: refused or looking, and no byte of the machine changed";
 const DAMAGED: &str = "C: a byte too few or too many, refused";
-const LARGE: &str = "C: repeat_over with a count over 65,535, refused";
+const LARGE: &str = "C: repeat_over with a count over 65,536, refused";
+const LARGE_BY_ONE: &str = "C: repeat_over with a count of 65,537, refused";
+/// By the sort of a count, with the numbers 0, 1, 65,536 and another.
+const REPEATED: &str = "C: repeat_over, accepted, with";
+const POPPED: &str = "C: pop";
 const PASSED: &str = "C: a key whose count would pass 65,535, refused 12";
 const AGAIN: &str = "C: a written file opens a machine that has the same hint and writes it again";
 const ONE_MORE: &str = "C: a file of 1,024 bindings and one more, refused 11";
@@ -33,7 +38,8 @@ const TO_A_FILE: &str = "C: a change to the map of a run";
 pub fn expect_calls() {
     let answers = [1, 2, 3, 4, 9, 11].map(|n| format!("refused {n}")).into_iter().chain(["ok".into()]);
     answers.for_each(|answer| expect_named(format!("{TO_A_FILE}: {answer}")));
-    expect_all(&[CALLS, KEPT, DAMAGED, LARGE, PASSED, AGAIN, ONE_MORE, CHANGED, NO_CHANGE]);
+    expect_all(&[CALLS, KEPT, DAMAGED, LARGE, LARGE_BY_ONE, PASSED, AGAIN, ONE_MORE, CHANGED, NO_CHANGE]);
+    [REPEATED, POPPED].iter().for_each(|what| typed::expect_sorts(what));
 }
 
 /// How the machine differs from the lines, if it does.
@@ -79,6 +85,7 @@ fn play(calls: &[(Item, String)]) -> Result<(), String> {
         if is.starts_with("refused 12 ") {
             met_named(PASSED.into());
         }
+        note_repeated(item, &is);
         match item {
             Item::Write(Room::Of(room)) => read_back(&mut machine, *room)?,
             Item::Call(Call::Change(..)) if is.starts_with("ok") => write_changed(&mut machine, &changed_to(item))?,
@@ -86,6 +93,14 @@ fn play(calls: &[(Item, String)]) -> Result<(), String> {
         }
     }
     Ok(())
+}
+
+/// For the counts alone: C gives the number of a count that is not typed whatever the count is.
+fn note_repeated(item: &Item, is: &str) {
+    match item {
+        Item::Call(Call::Repeat(_, Some(over))) if is.starts_with("ok") => typed::note_sort(REPEATED, *over),
+        _ => {},
+    }
 }
 
 /// What is no call has no function in C, unless it begins as a binding does.
@@ -130,11 +145,17 @@ fn pressed(code: u64) -> Told {
     }
 }
 
+/// A count that is not typed is 0.
 fn popped(code: u64) -> Told {
-    let part = |shift: u32| code >> shift & 0xFFFF;
-    match (code, code >> 48) {
-        (0, _) => told("nothing".into(), true),
-        (_, 1) => told(format!("pair {} {} {}", part(0), part(16), part(32)), false),
+    let part = |shift: u32| (code >> shift) as u16;
+    let context = Context { count: part(16), typed: code >> 49 & 1 == 1, mark: part(32) };
+    let is_pair = code >> 48 & !2 == 1 && (context.typed || context.count == 0);
+    match code {
+        0 => told("nothing".into(), true),
+        _ if is_pair => {
+            typed::note_sort(POPPED, context);
+            told(Answer::Pair(Pair { action: part(0), context }).to_string(), false)
+        },
         _ => no_answer(code),
     }
 }
@@ -229,7 +250,9 @@ fn called(machine: &mut Machine, item: &Item) -> Told {
         Item::Call(Call::Key { key, budget }) => pressed(machine.key(*key, *budget)),
         Item::Call(Call::Pop) => popped(machine.pop()),
         Item::Call(Call::Repeat(sequence, None)) => settled(machine.repeat(*sequence)),
-        Item::Call(Call::Repeat(sequence, Some(c))) => settled(machine.repeat_over(*sequence, c.count as u32, c.mark)),
+        Item::Call(Call::Repeat(sequence, Some(c))) => {
+            settled(machine.repeat_over(*sequence, c.count_number(), c.mark))
+        },
         Item::Call(Call::Reset) => settled(machine.reset()),
         Item::Find(mode, action) => found(machine.find(*mode, *action)),
         Item::Hint => free(machine.free()),
@@ -289,15 +312,21 @@ fn refuse_beside(machine: &mut Machine, item: &Item) -> Result<(), String> {
         },
         Item::Call(Call::Change(..)) => refuse_damaged(machine, changed_to(item), map_refusal, Machine::change),
         Item::Malformed(_) => file_in(item).map_or(Ok(()), |file| refuse_change(machine, &file)),
-        Item::Call(Call::Repeat(sequence, over)) => {
-            let over = over.unwrap_or_default();
-            let count = LARGEST + 1 + over.count as u32;
-            met_named(LARGE.into());
-            let name = format!("repeat_over {sequence} {count} {}", over.mark);
-            holds(machine, &name, "refused 1", |m| settled(m.repeat_over(*sequence, count, over.mark)))
-        },
+        Item::Call(Call::Repeat(sequence, over)) => refuse_large(machine, *sequence, over.unwrap_or_default()),
         _ => Ok(()),
     }
+}
+
+/// Counts that are too large, by one and by more; of one the lowest 16 bits are those of the item's own.
+fn refuse_large(machine: &mut Machine, sequence: u16, over: Context) -> Result<(), String> {
+    let more = over.count as u32;
+    for count in [LARGEST + 1, 2 * LARGEST + over.count_number(), u32::MAX - more] {
+        met_named(LARGE.into());
+        met_named_if(count == LARGEST + 1, LARGE_BY_ONE);
+        let name = format!("repeat_over {sequence} {count} {}", over.mark);
+        holds(machine, &name, "refused 1", |m| settled(m.repeat_over(sequence, count, over.mark)))?;
+    }
+    Ok(())
 }
 
 /// A change that `callplay` cannot read. A file is read in an order of its own, so the number may be another.

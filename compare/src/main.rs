@@ -31,6 +31,8 @@ mod record;
 mod scenes;
 mod shrink;
 mod status;
+mod typed;
+mod typing;
 mod walk;
 mod writing;
 
@@ -55,9 +57,9 @@ compare run FOLDER SECONDS FIRST     random lists and runs from seed FIRST on, a
 compare seed FOLDER SEED             one of these again
 compare record calls|runs FOLDER     the recorded lists or runs: writes stdin and stdout there
 KIND is usual, plain, long or big; or counts, which is the scenes of counts that pass their limit; or changes, which is scenes of
-changes of map. SORT is a kind; or runs, or keyplay; for many also lists, which is what `compare run` plays; for rows also reader,
-which is plain lists on the list reader, and graphs and files, which are nodes and edges, and the map file, after the bindings and
-changes of usual lists";
+changes of map; or typed, which is scenes of counts that are typed or not. SORT is a kind; or runs, or keyplay; for many also
+lists, which is what `compare run` plays; for rows also reader, which is plain lists on the list reader, and graphs and files,
+which are nodes and edges, and the map file, after the bindings and changes of usual lists";
 
 fn main() {
     let words: Vec<String> = std::env::args().skip(1).collect();
@@ -105,8 +107,10 @@ fn list_of(seed: u64, kind: &str) -> Vec<Call> {
     let kind = match kind {
         "counts" => return scenes::counting_of(seed),
         "changes" => return changing::changing_of(seed),
+        "typed" => return typing::typing_of(seed),
         "usual" => Kind::Usual,
         "plain" | "reader" if seed % 4 == 0 => return changing::plain_of(seed),
+        "plain" | "reader" if seed % 4 == 2 => return typing::plain_of(seed),
         "plain" | "reader" => Kind::Plain,
         "long" => Kind::Long,
         "big" => Kind::Big,
@@ -199,6 +203,7 @@ fn many_contests(seeds: std::ops::Range<u64>) {
         let case = cases::any_case_of(seed);
         let (code, _) = agreed(seed, mapfile::exported(&case.map, &case.keys, case.budget, &case.lent));
         contest::note_run(&case, code as u64);
+        agreed(seed, mapfile::keyplay(&cases::input_of_case(case, seed)));
     }
     met::print();
 }

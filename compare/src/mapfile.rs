@@ -1,10 +1,11 @@
-//! Document 01's map file, run and `keyplay`, written from its words over model and original together.
+//! The map file, the run and `keyplay` of documents 01 and 02, written from their words over model and original together.
 
 use crate::bytes::put_number;
 use crate::calls::{Answer, Call, ClassEntry, Event, ModeEntry, Pair, Part, Repeat, Rule, Step, Tables};
 use crate::graph::{limits, Graph};
 use crate::met::aside;
 use crate::play::Both;
+use crate::typed;
 
 /// Why a run ended: refused by a number, or because model and original differ.
 pub enum Stop {
@@ -245,8 +246,8 @@ fn read_keys(bytes: &[u8]) -> Read<Vec<u16>> {
 
 fn pair_bytes(p: &Pair) -> Vec<u8> {
     let mut bytes = vec![];
-    for n in [p.action, p.context.count, p.context.mark] {
-        put_number(n as u32, &mut bytes);
+    for n in [p.action as u32, p.context.count_number(), p.context.mark as u32] {
+        put_number(n, &mut bytes);
     }
     bytes
 }
@@ -262,6 +263,7 @@ pub fn run(map: &[u8], keys: &[u8], budget: u16, room: usize) -> Read<Vec<Pair>>
         while let Answer::Pair(pair) = must(&mut both, &Call::Pop)? {
             let size = pair_bytes(&pair).len();
             if size > left {
+                typed::note_too_long(&pair, size - left);
                 return refused(10);
             }
             left -= size;
@@ -275,6 +277,7 @@ pub fn run(map: &[u8], keys: &[u8], budget: u16, room: usize) -> Read<Vec<Pair>>
 pub fn exported(map: &[u8], keys: &[u8], budget: u16, lent: &[u8]) -> Result<(u32, Vec<u8>), String> {
     match run(map, keys, budget, lent.len()) {
         Ok(pairs) => {
+            typed::note_written(&pairs);
             let written: Vec<u8> = pairs.iter().flat_map(pair_bytes).collect();
             let output = [&written[..], &lent[written.len()..]].concat();
             Ok((written.len() as u32 * 32, output))
@@ -314,7 +317,8 @@ fn play_input(input: &[u8]) -> Read<Vec<Pair>> {
 pub fn keyplay(input: &[u8]) -> Result<String, String> {
     match play_input(input) {
         Ok(pairs) => {
-            let line = |p: &Pair| format!("{} {} {}\n", p.action, p.context.count, p.context.mark);
+            typed::note_printed(&pairs);
+            let line = |p: &Pair| format!("{} {} {}\n", p.action, p.context.count_text(), p.context.mark);
             Ok(String::from("action count mark\n") + &pairs.iter().map(line).collect::<String>())
         },
         Err(Stop::Refused(n)) => Ok(format!("refused {n}\n")),

@@ -216,7 +216,8 @@ pub fn counted() -> BTreeMap<String, u64> {
 
 // ---- the report
 
-pub fn print() {
+/// Prints what was met and what was not. Whether all was.
+pub fn print() -> bool {
     let c = COUNTS.with(|c| c.borrow().clone());
     for (words, times) in &c.named {
         println!("{times:>12}  {words}");
@@ -226,7 +227,9 @@ pub fn print() {
     }
     print_parts(&c);
     println!("{:>12}  keys to try at once, at most", c.most_stacked);
-    println!("never met: {}", never(&c));
+    let never = never(&c);
+    println!("never met: {}", if never.is_empty() { "nothing of these".into() } else { never.join("; ") });
+    never.is_empty()
 }
 
 fn print_parts(c: &Counts) {
@@ -241,13 +244,9 @@ fn words_of(numbers: &[u64]) -> String {
     numbers.iter().map(u64::to_string).collect::<Vec<_>>().join(" ")
 }
 
-fn never(c: &Counts) -> String {
+fn never(c: &Counts) -> Vec<&str> {
     let named = c.named.iter().filter(|(_, &times)| times == 0).map(|(words, _)| words.as_str());
     let places = WORDS.iter().zip(&c.places).filter(|(_, &times)| times == 0).map(|(words, _)| *words);
     let parts = PLACES.iter().zip(&c.parts).filter(|(_, row)| row.contains(&0)).map(|(place, _)| *place);
-    let all: Vec<&str> = named.chain(places).chain(parts).collect();
-    if all.is_empty() {
-        return "nothing of these".into();
-    }
-    all.join("; ")
+    named.chain(places).chain(parts).collect()
 }

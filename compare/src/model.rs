@@ -11,6 +11,7 @@ use crate::calls::{
 use crate::carried::{Carried, Sequence};
 use crate::graph::{limits, Follow, Graph, NodeAction, NodeId, Outcome};
 use crate::met::{aside, met, met_if, met_which, stacked, Met};
+use crate::typed::{self, Typing};
 use crate::walk::walk;
 use crate::writing::file_of;
 
@@ -49,6 +50,14 @@ impl Tracker {
             _ => met(Met::Ignore),
         }
         Ok(())
+    }
+
+    fn merge(&mut self, over: Context) {
+        for pair in &mut self.sequence {
+            typed::note_merge(pair.context, over);
+            pair.context = pair.context.merge(over);
+        }
+        self.overridden = true;
     }
 
     fn starts(&mut self, pair: Pair, sequence_break: bool, by: Met) {
@@ -104,6 +113,7 @@ pub struct Model {
     sequences: HashMap<u16, Tracker>,
     /// For the counts alone.
     ended: Ended,
+    typing: Typing,
 }
 
 /// How many nodes beside the roots and kept calls there were when the work of the last call but a pop ended, refused or not.
@@ -126,6 +136,7 @@ impl Model {
             trail: vec![],
             sequences: HashMap::new(),
             ended: Ended::default(),
+            typing: Typing::default(),
         }
     }
 
@@ -222,6 +233,7 @@ impl Model {
 
     fn push_all(&mut self, actions: Vec<u16>) -> Outcome<()> {
         let context = self.context.take();
+        self.typing.take(context, !actions.is_empty());
         for action in actions {
             self.push(Pair { action, context })?;
         }
@@ -251,6 +263,7 @@ impl Model {
     fn step(&mut self, step: &Step) -> Outcome<()> {
         if let Some(mark) = step.mark {
             met(Met::StepMark);
+            self.typing.step_mark();
             self.context.mark = mark;
         }
         match (step.actions.len(), step.next) {
@@ -307,7 +320,7 @@ impl Model {
         }
     }
 
-    /// The event hook: a digit's key by class 0 counts, Any sets the mark.
+    /// The event hook: a digit's key by class 0 counts and types, Any sets the mark.
     fn event(&mut self, event: Event, key: u16) -> Outcome<()> {
         match (event, digit_of(key)) {
             (Event::Class(0), Some(digit)) => self.count(digit)?,
@@ -323,7 +336,9 @@ impl Model {
         if count > MOST_COUNTED {
             return Err(12);
         }
+        self.typing.digit(self.context, digit);
         self.context.count = count as u16;
+        self.context.typed = true;
         Ok(())
     }
 
@@ -338,7 +353,8 @@ impl Model {
     }
 
     /// For the counts alone.
-    fn note_event(&self, event: Event, key: u16) {
+    fn note_event(&mut self, event: Event, key: u16) {
+        self.typing.event(self.context, event, key);
         let passing = self.would_pass(key);
         match event {
             Event::Key(_) => {
@@ -438,12 +454,11 @@ impl Model {
         }
         let tracker = self.sequences.entry(sequence).or_default();
         note_repeat(tracker, over.is_some());
-        for pair in &mut tracker.sequence {
-            pair.context = over.map_or(pair.context, |o| pair.context.merge(o));
-        }
-        tracker.overridden |= over.is_some();
         if tracker.sequence.len() + self.queue.len() > MOST_QUEUED {
             return Err(5);
+        }
+        if let Some(over) = over {
+            tracker.merge(over);
         }
         for pair in tracker.sequence.iter().rev() {
             self.queue.push_front(*pair);
@@ -544,7 +559,7 @@ impl Model {
         Ok(())
     }
 
-    /// A new map: the tables as at open and then the bindings in their order. Queue, sequences, mode and context stay.
+    /// A new map: the tables, as at open, and after them each binding in turn. Queue, sequences, mode and context stay.
     fn change(&mut self, tables: &Tables, bindings: &[Call]) -> Outcome<()> {
         (self.graph, self.kept) = (Graph::fresh(), vec![]);
         if !tables_valid(tables) {
@@ -553,10 +568,11 @@ impl Model {
         self.tables = tables.clone();
         bindings.iter().try_for_each(|b| self.bind(b))?;
         self.resume();
+        self.typing.change(self.context);
         Ok(())
     }
 
-    /// The trail in a new map, from the root of the entered mode.
+    /// The trail in a new map, from the entered mode's root.
     fn resume(&mut self) {
         let root = self.mode as NodeId;
         match walk(&self.graph, &self.tables, root, &self.trail).end {

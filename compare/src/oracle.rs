@@ -215,13 +215,15 @@ impl TableState {
     }
 
     /// Document 01's count, which is cut at 65,535. Document 02 refuses such a key, request (iv), and a hook of the original
-    /// cannot. So the instance tells the round, and `play.rs` holds the model to it and takes the key back.
+    /// cannot. So the instance tells the round, and `play.rs` holds the model to it and takes the key back. A digit that counts
+    /// types, request (vii).
     fn count(&mut self, digit: u16) {
         let count = self.0.count as u32 * 10 + digit as u32;
         if count > 65_535 {
             cut_in_round();
         }
         self.0.count = count.min(65_535) as u16;
+        self.0.typed = true;
     }
 }
 

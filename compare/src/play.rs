@@ -9,6 +9,7 @@ use crate::hints::Last;
 use crate::met::{expect_named, met_named};
 use crate::model::Model;
 use crate::oracle::{Made, Oracle};
+use crate::typed;
 
 /// What can be seen after a call.
 #[derive(Clone, Debug, PartialEq)]
@@ -52,6 +53,9 @@ impl Both {
         self.last = Last::of(call, answer, nodes, self.model.ended().nodes);
         self.last.is_possible()?;
         met_named(format!("{}: {}", name_of(call), answer_kind(answer)));
+        if let Answer::Pair(pair) = answer {
+            typed::note_sort(typed::POPPED, pair.context);
+        }
         if full && matches!(call, Call::Map(..) | Call::Prefix(..)) {
             met_named(format!("{KEPT_FULL}: {}", answer_kind(answer)));
         }

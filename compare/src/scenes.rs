@@ -8,6 +8,7 @@ use crate::chains;
 use crate::changing::{self, with_changes};
 use crate::gen::{with_digits, Gen, Kind, Random};
 use crate::graph::Graph;
+use crate::typing;
 use crate::writing::file_of;
 
 pub type Scene = fn(&mut Gen) -> Vec<Call>;
@@ -56,18 +57,19 @@ pub fn calls_of(seed: u64) -> Vec<Call> {
     let mut other = |kind| Gen::new(g.random.next(), kind).list();
     match which {
         0..=1 => one_of(&mut g, &LONG_SCENES)(&mut g),
-        2..=3 => one_of(&mut g, &changing::LONG_SCENES)(&mut g),
-        4..=43 => {
+        2..=4 => one_of(&mut g, &changing::LONG_SCENES)(&mut g),
+        5..=40 => {
             let calls = SCENES[scene as usize](&mut g);
             if g.random.chance(15) {
                 return with_changes(&mut g, calls);
             }
             calls
         },
-        44..=57 => one_of(&mut g, &changing::SCENES)(&mut g),
-        58..=78 => other(Kind::Usual),
-        79..=86 => other(Kind::Plain),
-        87..=95 => other(Kind::Long),
+        41..=47 => one_of(&mut g, &typing::SCENES)(&mut g),
+        48..=65 => one_of(&mut g, &changing::SCENES)(&mut g),
+        66..=80 => other(Kind::Usual),
+        81..=87 => other(Kind::Plain),
+        88..=95 => other(Kind::Long),
         _ => other(Kind::Big),
     }
 }
@@ -79,7 +81,7 @@ pub fn list_of(seed: u64) -> List {
     let calls = calls_of(seed);
     let is_long = calls.len() > 200;
     let often = if is_long { g.random.pick(&[0, 0, 1]) } else { g.random.pick(&[0, 3, 10]) };
-    let finds = if g.random.chance(40) { finds(&mut g, &calls) } else { vec![] };
+    let finds = if g.random.chance(70) { finds(&mut g, &calls) } else { vec![] };
     let mut list = vec![];
     for call in calls {
         if g.random.chance(often) {
@@ -202,10 +204,10 @@ fn unknown(g: &mut Gen) -> Vec<u32> {
     }
 }
 
-/// A kind of call that there is not, an override that is neither 0 nor 1, a number in a longer form or over 65,535, an early
-/// end.
+/// A kind of call that there is not, an override that is neither 0 nor 1, or whose count is neither typed nor not, a number in a
+/// longer form or over 65,535, an early end.
 fn malformed(g: &mut Gen) -> Vec<u8> {
-    let ways: [&[u8]; 16] = [
+    let ways: [&[u8]; 20] = [
         &[11],
         // a change: its end or a number that is none, and a kind of binding that there is not, behind one that is refused too
         &[10],
@@ -217,6 +219,11 @@ fn malformed(g: &mut Gen) -> Vec<u8> {
         &[10, 0, 0, 0, 2, 1, 16, 0, 1, 0x80, 0],
         &[0xFF, 0xFF, 3],
         &[5, 0, 2],
+        &[5, 0, 1, 2, 0, 0],
+        // a sequence that there is not, which would be refused if the call were whole
+        &[5, 8, 1, 2, 5, 0],
+        &[5, 8, 1, 1, 5],
+        &[5, 0, 1, 0xFF, 0xFF, 3, 0, 0],
         &[0x84, 0],
         &[3, 0x80],
         &[3, 97],
@@ -269,7 +276,7 @@ pub fn presses(keys: &[u16]) -> Vec<Call> {
     keys.iter().map(|&k| press(k)).collect()
 }
 
-fn track(sequence: u16) -> Rule {
+pub fn track(sequence: u16) -> Rule {
     Rule { mode: 0, low: 0, high: 65_535, sequence, status: 4 }
 }
 
@@ -293,7 +300,8 @@ pub fn usual(g: &mut Gen, times: u64) -> Vec<Call> {
 // ---- scenes
 
 fn over(g: &mut Gen) -> Context {
-    Context { count: g.random.pick(&[0, 1, 2, 65_535]), mark: g.random.pick(&[0, 0, 3, 65_535]) }
+    let (count, mark) = (g.random.pick(&[0, 1, 2, 65_535]), g.random.pick(&[0, 0, 3, 65_535]));
+    Context { count, typed: g.random.chance(50), mark }
 }
 
 /// Tracked pairs, then repeats of them with one override and another: each must be stored.

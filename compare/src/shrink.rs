@@ -165,7 +165,13 @@ fn smaller_tables(t: &Tables) -> Vec<Tables> {
 }
 
 fn smaller_context(c: &Context) -> Vec<Context> {
-    [with(c, numbers(c.count), |c, n| c.count = n), with(c, numbers(c.mark), |c, n| c.mark = n)].concat()
+    let untyped = if c.typed { vec![false] } else { vec![] };
+    [
+        with(c, untyped, |c, t| c.typed = t),
+        with(c, numbers(c.count), |c, n| c.count = n),
+        with(c, numbers(c.mark), |c, n| c.mark = n),
+    ]
+    .concat()
 }
 
 fn smaller_call(call: &Call) -> Vec<Call> {

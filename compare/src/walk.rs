@@ -1,5 +1,5 @@
-//! The trail in a new map, from document 02's words: it is walked from a root by following only, without hooks, and kept if
-//! every key on it needs more and none falls through.
+//! The trail in a new map, from document 02's words: from a root on its keys are followed and nothing else, without hooks. It is
+//! kept if each of them needs more and does not fall through.
 
 use crate::calls::{Event, Tables};
 use crate::graph::{Follow, Graph, NodeAction, NodeId};

@@ -75,10 +75,19 @@ fn prefix(mode: u16, step: Option<Step>) -> Binding {
     }
 }
 
+// A context that overrides count and mark.
+fn over(count: u16) -> Context {
+    Context {
+        count,
+        typed: true,
+        mark: 6,
+    }
+}
+
 // How many pairs a sequence by value remembers, of one that was pushed to a fresh one.
 fn remembered() -> u16 {
     let (tracker, _) = SequenceTracker::fresh().push(Status::Track, Pair::default());
-    tracker.fetch(Some(Context { count: 5, mark: 6 })).1
+    tracker.fetch(Some(over(5))).1
 }
 
 // Every other call by value but opening and changing, once, for the stack that they use. The answer is the node of a mapping
@@ -87,9 +96,7 @@ pub fn bench_other_calls(bytes: &[u8]) -> u64 {
     let s = scanner_of(bytes);
     let (mapped, _) = s.bind(&mapping(3));
     let (prefixed, _) = mapped.bind(&prefix(2, Some(crate::one_action(3))));
-    let (repeated, _) = prefixed
-        .machine
-        .repeat(0, Some(Context { count: 5, mark: 6 }));
+    let (repeated, _) = prefixed.machine.repeat(0, Some(over(5)));
     let (reset, _) = repeated.reset_mode();
     let found = reset.find(1, 3);
     let left = reset.free_nodes();
@@ -150,7 +157,7 @@ pub fn bench_repeats(bytes: &[u8], times: u16) -> u64 {
     m.live.sequences[0].head = 128;
     repeated(times, |i| {
         m.live.clear_queue();
-        m = m.repeat(0, Some(Context { count: i, mark: 6 })).0;
+        m = m.repeat(0, Some(over(i))).0;
         m.live.state.queued
     })
 }

@@ -15,12 +15,13 @@ use keyparts::index::{Index, IndexedGraph};
 use keyvalues::tables::TableWords;
 use mapfile::map;
 
-// A pair more.
+// A pair more. The count stands in it as a run writes it.
 pub fn mix(sum: u64, pair: Pair) -> u64 {
     let x = pair.context;
     let count = (sum / 4294967296 + 1) % 4294967296;
     let old = sum % 4294967296;
-    let mixed = ((old * 31 + (pair.action as u64)) * 31 + (x.count as u64)) * 31 + (x.mark as u64);
+    let counted = if x.typed { (x.count as u64) + 1 } else { 0 };
+    let mixed = ((old * 31 + (pair.action as u64)) * 31 + counted) * 31 + (x.mark as u64);
     count * 4294967296 + mixed % 4294967296
 }
 

@@ -39,7 +39,7 @@ fn walk(map: &IndexedMap, trail: &[u16], root: u16) -> Option<u16>
     Some(place)
 }
 
-// The place that the trail leads to in the map, from the root of the entered mode. If it leads to none, the root, and the trail is
+// The place that the trail leads to in the map, from the entered mode's root. If it leads to none, the root, and the trail is
 // empty.
 pub fn resume(map: &IndexedMap, live: &mut Live)
     ensures { live_of (tables_of map.now.tables.now) live.new ≡ rules.resume (navigator_of map.now) (shared_of (tables_of map.now.tables.now) live.old) }

@@ -95,7 +95,7 @@ impl ModalMachine {
     }
 
     // The next machine, which was made as any is, with this one's live state in place of its own: the queue, the sequences, the
-    // entered mode and the context pass over, and the trail is walked in the new map.
+    // entered mode and the context pass over, and the new map is walked along the trail.
     #[tactic(auto, unfolding(rules::specs::Calls::carry_over))]
     pub fn change(self, mut next: ModalMachine) -> ModalMachine
         ensures { (ws ws₁ : List CallWords) → machine_of ws₁ result ≡ carry_over graph_kind (machine_of ws self) (machine_of ws₁ next) }

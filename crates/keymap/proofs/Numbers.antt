@@ -13,6 +13,7 @@ use Rattle.rules.specs.Basics.{Result, accept, refuse, ◌>>=◌, unless}
 use Rattle.rules.specs.Values.{Binding}
 use Rattle.rules.specs.Calls.{Machine, graph_kind, bind, carry_over, settled, repeat_call, call, Repeats, Answer, Accepted, Refused}
 use Rattle.rules.specs.MapFile.{read_binding, at_end, read_map}
+use Rattle.rules.specs.Run.{numbered}
 use Rattle.keyvalues.specs.declared.refusal.Refusal.{Refusal}
 use Rattle.keyvalues.specs.View.{said_of}
 use Rattle.keymachine.specs.View.{press_of}
@@ -52,17 +53,17 @@ module _ (m : Machine graph_kind) (bs : List ℕ) where
 
 module _ (m : Machine graph_kind) (q count mark : ℕ) where
   abbrev by : Bool → Machine graph_kind × Answer
-  by b = settled graph_kind m (unless b 1 (repeat_call graph_kind q (some (record { count = count; mark = mark })) m))
+  by b = settled graph_kind m (unless b 1 (repeat_call graph_kind q (some (numbered count mark)) m))
 
-  -- a count over the largest number leaves the machine
-  pub too_many : 65535 < count → (m, Refused 1) ≡ repeat_over m q count mark
+  -- a number that no count has leaves the machine
+  pub too_many : 65536 < count → (m, Refused 1) ≡ repeat_over m q count mark
   unfolding settled
-  too_many h = sym (ap by (lt-leb count 65535 h))
+  too_many h = sym (ap by (lt-leb count 65536 h))
 
   -- else it is the rules' call
-  pub few_enough : count ≤ 65535 → call graph_kind m (Repeats q (some (record { count = count; mark = mark }))) ≡ repeat_over m q count mark
+  pub few_enough : count ≤ 65536 → call graph_kind m (Repeats q (some (numbered count mark))) ≡ repeat_over m q count mark
   unfolding call
-  few_enough h = sym (ap by (le-leb count 65535 h))
+  few_enough h = sym (ap by (le-leb count 65536 h))
 
 -- the rounds, and the refusal's number more
 pub pressed : (rounds : ℕ) (r : Prelude.Result (Unit {0}) Refusal) → rounds * 32 + answer_code (said_of r) ≡ answer_code (press_of (rounds, r))

@@ -1,22 +1,23 @@
 -- The numbers that C gets for the answers of the rules, and the calls that C makes with other arguments than the rules' calls.
 use Rattle.std.specs.Prelude as Prelude
-use Rattle.std.specs.Prelude.{Ok, Err, ℕ, ◌+◌, ◌*◌, ◌≡◌, List, leb}
+use Rattle.std.specs.Prelude.{Ok, Err, ℕ, ◌+◌, ◌*◌, List, leb, if◌then◌else◌}
 use Rattle.std.proofs.Math.Option.{Option, none, some}
 use Rattle.rules.specs.Basics.{Result, accept, refuse, ◌>>=◌, unless}
-use Rattle.rules.specs.Values.{largest}
 use Rattle.rules.specs.Calls.{Machine, graph_kind, bind, carry_over, settled, repeat_call, Answer, Accepted, Refused, Popped, Nothing, Pressed, PressRefused}
 use Rattle.rules.specs.MapFile.{read_binding, at_end, read_map}
+use Rattle.rules.specs.Run.{most_count, numbered}
 use Rattle.keyvalues.specs.declared.refusal.Refusal.{Refusal}
 use Rattle.keyvalues.specs.View.{number_of}
 
 -- ---- answers
 
 -- Acceptance is 0 and a refusal is its number. A key's answer is its rounds × 32, and the refusal's number more if it is
--- refused. A pair that was popped is action + count × 2^16 + mark × 2^32 + 2^48, and no pair is 0.
+-- refused. A pair that was popped is action + count × 2^16 + mark × 2^32 + 2^48, and 2^49 more if its count was typed; no pair
+-- is 0.
 abbrev pub answer_code : Answer → ℕ
 answer_code Accepted = 0
 answer_code (Refused n) = n
-answer_code (Popped p) = p.action + p.context.count * 65536 + p.context.mark * 4294967296 + 281474976710656
+answer_code (Popped p) = p.action + p.context.count * 65536 + p.context.mark * 4294967296 + 281474976710656 + (if p.context.typed then 562949953421312 else 0)
 answer_code Nothing = 0
 answer_code (Pressed rounds) = rounds * 32
 answer_code (PressRefused n rounds) = rounds * 32 + n
@@ -56,9 +57,9 @@ bind_alone m bs = do
 abbrev pub bind_map : Machine graph_kind → List ℕ → Machine graph_kind × Answer
 bind_map m bytes = settled graph_kind m (bind_alone m bytes)
 
--- repeat with another count and mark: 1 a count over the largest number
+-- repeat with another count and mark. The count comes as its number, 0 for none and else count + 1: 1 if no count has the number
 abbrev pub repeat_over : Machine graph_kind → (sequence count mark : ℕ) → Machine graph_kind × Answer
-repeat_over m sequence count mark = settled graph_kind m (unless (leb count largest) 1 (repeat_call graph_kind sequence (some (record { count = count; mark = mark })) m))
+repeat_over m sequence count mark = settled graph_kind m (unless (leb count most_count) 1 (repeat_call graph_kind sequence (some (numbered count mark)) m))
 
 -- ---- memory
 

@@ -32,7 +32,7 @@ pub(crate) fn pressed_code(pressed: (u16, Result<(), Refusal>)) -> u64
     (rounds as u64) * 32 + answer_code(answer)
 }
 
-// 0, or the pair's three numbers below a bit that says that there is one.
+// 0, or the pair's word with the bit that says that there is one.
 pub(crate) fn waiting_code(waiting: Option<Pair>) -> u64
     ensures { result ≡ answer_code (pop_of waiting) }
 {

@@ -51,7 +51,7 @@ pub fn open_file(m: &mut Scanner, map: &[u8]) -> Result<(), Refusal>
 }
 
 // Another map takes the place of the machine's own, with the binding calls that it kept. The queue, the sequences, the entered
-// mode and the context pass over, and the trail is walked in the new map.
+// mode and the context pass over, and the new map is walked along the trail.
 #[tactic(auto, unfolding(rules::specs::Calls::carry_over, rules::specs::Calls::fresh, rules::specs::KeyLoop::fresh_shared))]
 pub fn change(m: &mut Scanner, map: &Map, kept: &[CallWords; CallWords::KEPT as usize])
     ensures { scanner_of m.new ≡ carry_over graph_kind (scanner_of m.old) (map_of kept.now map.now) }
@@ -115,13 +115,13 @@ pub fn repeat(m: &mut Scanner, sequence: u16, over: Option<Context>) -> Result<(
     m.machine.live.repeat(sequence, over)
 }
 
-// A count that is no number of the rules is refused.
+// A number that no count has is refused.
 #[tactic(auto, using(crate::proofs::Numbers::too_many, crate::proofs::Numbers::few_enough))]
 pub fn repeat_over(m: &mut Scanner, sequence: u16, count: u32, mark: u16) -> Result<(), Refusal>
     ensures { (scanner_of m.new, said_of result) ≡ repeat_over (scanner_of m.old) sequence count mark }
 {
-    let count = u16::try_from(count).map_err(|_| Refusal::OutOfRange)?;
-    repeat(m, sequence, Some(Context { count, mark }))
+    let over = Context::numbered(count, mark).ok_or(Refusal::OutOfRange)?;
+    repeat(m, sequence, Some(over))
 }
 
 pub fn reset_mode(m: &mut Scanner) -> Result<(), Refusal>

@@ -19,10 +19,11 @@ use Rattle.keypairs.specs.declared.live.Live.{Live}
 -- ---- context and pair
 
 abbrev pub context_of : Context → v.Context
-context_of x = record { count = x.count; mark = x.mark }
+context_of x = record { count = x.count; typed = x.typed; mark = x.mark }
 
-abbrev pub chosen_of : ℕ → ℕ → ℕ
-chosen_of over old = if eqb over 0 then old else over
+-- the context in the word of a pair
+abbrev pub context_in : ℕ → v.Context
+context_in w = record { count = w / 65536 % 65536; typed = eqb (w / 562949953421312 % 2) 1; mark = w / 4294967296 % 65536 }
 
 abbrev pub over_of : Prelude.Option Context → Option v.Context
 over_of None = none
@@ -32,7 +33,7 @@ abbrev pub pair_by : Pair → v.Pair
 pair_by p = record { action = p.action; context = context_of p.context }
 
 unfoldable pub pair_of : ℕ → v.Pair
-pair_of w = v.pair (w % 65536) (w / 65536 % 65536) (w / 4294967296 % 65536)
+pair_of w = record { action = w % 65536; context = context_in w }
 
 -- the first n words, each a pair
 abbrev pub pairs_of : ℕ → List ℕ → List v.Pair
@@ -71,7 +72,7 @@ abbrev pub shared_of : t.Tables → Live → key.Shared
 shared_of t l = record {
   tables = t;
   mode = l.state.mode;
-  context = context_of l.state.context;
+  context = context_in l.state.context;
   queue = pairs_of l.state.queued l.queue;
   trail = take l.state.trailed l.trail;
   sequences = trackers_of l.sequences;

@@ -9,7 +9,7 @@ ghost use Rattle.rules.specs.Graph.{Graph};
 ghost use Rattle.rules.specs.Calls.{graph_kind, fresh, call, mode_call, Pop, Repeats};
 ghost use Rattle.keyvalues.specs.View.{told, event_of, maybe_of, said_of, settled};
 ghost use Rattle.keytables.specs.View.{tables_of};
-ghost use Rattle.keypairs.specs.View.{context_of, pair_by, trackers_of, broke, over_of, fetched_at, live_of, shared_of, machine_by, hooked, joined, pop_of};
+ghost use Rattle.keypairs.specs.View.{context_in, pair_by, trackers_of, broke, over_of, fetched_at, live_of, shared_of, machine_by, hooked, joined, pop_of};
 
 use crate::context::Context;
 use crate::pair::Pair;
@@ -63,7 +63,8 @@ impl Live {
         ensures { (t : Tables) → live_of t self.new ≡ key.at self.old.state.place (key.set_mark (maybe_of mark) (shared_of t self.old)) }
     {
         if let Some(mark) = mark {
-            self.state.context.mark = mark;
+            let context = Context::unpack(self.state.context);
+            self.state.context = Context { mark, ..context }.pack();
         }
     }
 
@@ -74,12 +75,16 @@ impl Live {
         self.state.place = place;
     }
 
-    // The event hook, after a key went by the event.
-    #[tactic(auto, unfolding(rules::specs::KeyLoop::run_hook, keyvalues::specs::View::settled))]
+    // The event hook, after a key went by the event. Most go by a Key edge, which leaves the context as it is.
+    #[tactic(auto, unfolding(rules::specs::KeyLoop::run_hook, rules::specs::Values::hook, keyvalues::specs::View::settled))]
     pub fn hook(&mut self, event: EdgeEvent, key: u16) -> Result<(), Refusal>
         ensures { (t : Tables) → (live_of t self.new, said_of result) ≡ settled (live_of t self.old) (hooked (some (event_of event)) key (live_of t self.old)) }
     {
-        self.state.context = self.state.context.event(event, key)?;
+        if let EdgeEvent::Key(_) = event {
+            return Ok(());
+        }
+        let context = Context::unpack(self.state.context);
+        self.state.context = context.event(event, key)?.pack();
         Ok(())
     }
 
@@ -95,16 +100,17 @@ impl Live {
         Ok(())
     }
 
-    // A pair for each of the actions, all with one context.
+    // A pair for each of the actions, all with one context, which comes as a word.
     #[tactic(auto, using(crate::proofs::Pushes::actions_more, crate::proofs::Pushes::actions_refused, crate::proofs::Pushes::actions_none))]
     pub(crate) fn push_all(
         &mut self,
         tables: &TableWords,
         actions: &[u16],
-        context: Context,
+        context: u64,
     ) -> Result<(), Refusal>
-        ensures { told (λ _. shared_of (tables_of tables.now) self.new) result ≡ key.push_all actions.now (context_of context) (shared_of (tables_of tables.now) self.old) }
+        ensures { told (λ _. shared_of (tables_of tables.now) self.new) result ≡ key.push_all actions.now (context_in context) (shared_of (tables_of tables.now) self.old) }
     {
+        let context = Context::unpack(context);
         for action in actions {
             let pair = Pair {
                 action: *action,

@@ -9,6 +9,7 @@ ghost use Rattle.keyparts.specs.View.{graph_of};
 ghost use Rattle.keytables.specs.View.{tables_of};
 ghost use Rattle.keypairs.specs.View.{live_of, shared_of, give_goto};
 
+use crate::context::Context;
 use crate::live::Live;
 use keyparts::graph::Graph;
 use keytables::tables::ModeEntry;
@@ -38,7 +39,7 @@ impl Live {
     {
         let entry = ModeEntry::of(tables, mode);
         self.state.mode = mode;
-        let taken = self.state.context.take();
+        let taken = Context::take(&mut self.state.context);
         self.push_all(tables, entry.enter.list(), taken)?;
         self.state.place = node::root(mode);
         Ok(())
@@ -54,7 +55,7 @@ impl Live {
     ) -> Result<(), Refusal>
         ensures { (bs : g.Graph) → told (λ _. live_of (tables_of tables.now) self.new) result ≡ give_goto bs actions.now (maybe_of next) (shared_of (tables_of tables.now) self.old) }
     {
-        let context = self.state.context.take();
+        let context = Context::take(&mut self.state.context);
         self.push_all(tables, or_default(actions), context)?;
         self.goto_mode_or_scratch(tables, next.unwrap_or(self.state.mode))
     }

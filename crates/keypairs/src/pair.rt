@@ -1,5 +1,5 @@
 // A pair: an action with the context that it carries. Waiting and remembered pairs are kept as a word each.
-ghost use Rattle.std.specs.Prelude.{◌≡◌, ◌+◌, ◌*◌, ◌<◌};
+ghost use Rattle.std.specs.Prelude.{◌≡◌, ◌+◌, ◌*◌, if◌then◌else◌};
 ghost use Rattle.rules.specs.Values as v;
 ghost use Rattle.rules.specs.KeyLoop.{override};
 ghost use Rattle.keypairs.specs.View.{pair_by, pair_of, over_of};
@@ -32,14 +32,13 @@ impl Pair {
     // So many pairs wait at most.
     pub const QUEUE: u16 = 256;
 
-    // The word of a pair: action, count and mark, lowest first.
+    // The word of a pair: its action, below what its context is packed to.
     #[tactic(auto, unfolding(crate::specs::View::pair_of))]
     pub fn pack(self) -> u64
         ensures means { pair_of result ≡ pair_by self }
-        ensures number { (result ≡ self.action + 65536 * self.context.count + 4294967296 * self.context.mark) × (result < 281474976710656) }
+        ensures number { result ≡ self.action + 65536 * self.context.count + 4294967296 * self.context.mark + (if self.context.typed then 562949953421312 else 0) }
     {
-        let x = self.context;
-        (self.action as u64) + (x.count as u64) * 65536 + (x.mark as u64) * 4294967296
+        (self.action as u64) + self.context.pack()
     }
 
     // The pair of a word of the queue or of a sequence.
@@ -49,10 +48,7 @@ impl Pair {
     {
         Pair {
             action: number::low(w),
-            context: Context {
-                count: number::low(w / 65536),
-                mark: number::low(w / 4294967296),
-            },
+            context: Context::unpack(w),
         }
     }
 

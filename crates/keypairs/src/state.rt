@@ -1,14 +1,13 @@
 // What is small of a machine's state.
-use crate::context::Context;
-
-// The place is a node; `queued` words of the queue are waiting pairs, and `trailed` keys are on the trail. The default is mode 0
-// and its root, with nothing gathered, queued or on the trail.
+// The context is kept as the word of a pair that carries it, so that it goes to the pairs in a register. The place is a node;
+// `queued` words of the queue are waiting pairs, and `trailed` keys are on the trail. The default is mode 0 and its root, with
+// nothing gathered, queued or on the trail.
 #[repr(C)]
 #[derive(Clone, Copy, Debug, PartialEq, Eq, Default)]
 pub struct State {
+    pub context: u64,
     pub place: u16,
     pub mode: u16,
-    pub context: Context,
     pub queued: u16,
     pub trailed: u16,
 }

@@ -1,5 +1,5 @@
--- Following in one pass, as the links of an index lead: which words it goes through, and what it remembers of them. In a graph with
--- only the edges gone through so far, that is the edge that following would take.
+-- Following in one pass, as the links of an index lead: which words it goes through, and what it remembers of them. That is what
+-- following would take if the graph had no edges but those gone through.
 use Rattle.std.specs.Prelude.{ℕ, zero, suc, ◌+◌, ◌*◌, ◌/◌, ◌%◌, ◌≡◌, Bool, List, [], ◌∷◌, ◌++◌, map, ltb, leb, eqb, length, get_or, if◌then◌else◌}
 use Rattle.std.specs.Int.{bit_at}
 use Rattle.std.specs.List.{filter}

@@ -206,8 +206,8 @@ impl<'a> IndexedGraph<'a> {
         best
     }
 
-    // One round: the Key edge, the first membership with a Class edge, Any, then Fallthrough. The one pass goes through the node's
-    // edge for the key, and then through its edges whose event is no key. They are two calls, each built in as a loop that
+    // One round: Key, Class of the first membership that has such an edge, Any, then Fallthrough. The one pass goes through the
+    // node's edge for the key, and then through its edges whose event is no key. They are two calls, each built in as a loop that
     // knows its group: where one loop makes both, the compiler does not always make two of it, and a key takes twice the time.
     // All of it is built in where a key goes a round: called, it costs a key 4 ns.
     #[inline(always)]

@@ -9,7 +9,7 @@ use Rattle.std.specs.Prelude.{All}
 use Rattle.std.proofs.lemmas.List.Elements.{All-map}
 use Rattle.rules.specs.Values.{Pair}
 use Rattle.rules.specs.Numbers.{bytes_of}
-use Rattle.rules.specs.Run.{pair_bytes}
+use Rattle.rules.specs.Run.{count_number, pair_bytes}
 use Rattle.rules.specs.Writing.{in_bytes}
 use Rattle.keypairs.specs.View.{pair_of}
 use Rattle.mapparts.specs.View.{placed, put_all}
@@ -26,7 +26,7 @@ unfolding in_bytes flat_map pair_bytes
 numbers_bytes [] = refl
 numbers_bytes (p ∷ ps) =
     let a = bytes_of p.action in
-    let b = bytes_of p.context.count in
+    let b = bytes_of (count_number p.context) in
     let d = bytes_of p.context.mark in
     ap (λ bs. a ++ (b ++ (d ++ bs))) (numbers_bytes ps) ∙ sym (append_assoc (a ++ b) d (pair_bytes ps) ∙ append_assoc a b (d ++ pair_bytes ps))
 

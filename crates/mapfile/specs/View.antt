@@ -6,7 +6,7 @@ use Rattle.rules.specs.Basics.{Result, accept, refuse}
 use Rattle.rules.specs.Values.{Pair}
 use Rattle.rules.specs.Numbers.{bytes_of}
 use Rattle.rules.specs.MapFile.{Reader, then_read, lifted, read_binding}
-use Rattle.rules.specs.Run.{pair_bytes}
+use Rattle.rules.specs.Run.{count_number, pair_bytes}
 use Rattle.rules.specs.Calls.{Machine, graph_kind, fresh, bind}
 use Rattle.keytables.specs.View.{tables_of}
 use Rattle.keptcalls.specs.declared.words.CallWords.{CallWords}
@@ -30,10 +30,10 @@ map_of ws m = map_kept ws m (fresh graph_kind (tables_of m.tables)).state
 
 -- a pair as three numbers, and those as bytes
 abbrev pub numbers_of : Pair → List ℕ
-numbers_of p = p.action ∷ p.context.count ∷ p.context.mark ∷ []
+numbers_of p = p.action ∷ count_number p.context ∷ p.context.mark ∷ []
 
 abbrev pub bytes_of_pair : Pair → List ℕ
-bytes_of_pair p = bytes_of p.action ++ bytes_of p.context.count ++ bytes_of p.context.mark
+bytes_of_pair p = bytes_of p.action ++ bytes_of (count_number p.context) ++ bytes_of p.context.mark
 
 -- pairs as numbers
 abbrev pub pair_numbers : List Pair → List ℕ

@@ -42,7 +42,7 @@ fn play_keys(map: &IndexedMap, keys: &[u8], out: &mut [u8], budget: u16) -> Resu
     Ok(writer.at)
 }
 
-// The map is read whole before the keys, and all keys before the first is tried; one index serves them all. The calls that the
+// First the whole map is read, then all keys, and only then one is tried; one index serves them all. The calls that the
 // reader keeps are of no use here.
 pub(crate) fn play(map: &[u8], keys: &[u8], out: &mut [u8], budget: u16) -> Result<usize, Refusal>
     ensures { (lent : ℕ) → length out.old ≡ min lent 65536 → Ended (run map.now keys.now budget lent) result out.old out.new }

@@ -32,17 +32,24 @@ groups_shorter (b ∷ bs) = go (ltb b 128) (groups bs) (groups_shorter bs)
     go false (accept r) h = omega arith
     go false (refuse n) h = tt
 
-number_shorter : (bs : List ℕ) → Shorter bs (number bs)
-unfolding number number_up_to
-number_shorter bs = go (groups bs) (groups_shorter bs)
+read_shorter : (most : ℕ) (bs : List ℕ) → Shorter bs (number_up_to most bs)
+unfolding number_up_to
+read_shorter most bs = go (groups bs) (groups_shorter bs)
   where
     test : (t : Bool) (v : ℕ) (r : List ℕ) → length r < length bs → Shorter bs (unless t 9 (accept (v, r)))
     test true v r h = h
     test false v r h = tt
 
-    go : (x : Result (List ℕ × List ℕ)) → Shorter bs x → Shorter bs (x >>= λ r. unless (shortest r.0 && leb (value_of r.0) 65535) 9 (accept (value_of r.0, r.1)))
-    go (accept r) h = test (shortest r.0 && leb (value_of r.0) 65535) (value_of r.0) r.1 h
+    go : (x : Result (List ℕ × List ℕ)) → Shorter bs x → Shorter bs (x >>= λ r. unless (shortest r.0 && leb (value_of r.0) most) 9 (accept (value_of r.0, r.1)))
+    go (accept r) h = test (shortest r.0 && leb (value_of r.0) most) (value_of r.0) r.1 h
     go (refuse n) h = tt
+
+number_shorter : (bs : List ℕ) → Shorter bs (number bs)
+unfolding number
+number_shorter bs = read_shorter 65535 bs
+
+pub shorter_to : (most : ℕ) (bs rest : List ℕ) (v : ℕ) → accept (v, rest) ≡ number_up_to most bs → length rest < length bs
+shorter_to most bs rest v e = subst (Shorter bs) (sym e) (read_shorter most bs)
 
 pub shorter : (bs rest : List ℕ) (v : ℕ) → accept (v, rest) ≡ number bs → length rest < length bs
 shorter bs rest v e = subst (Shorter bs) (sym e) (number_shorter bs)

@@ -11,7 +11,7 @@ use keyvalues::event::{EdgeEvent, EdgeRepeat};
 use keyvalues::path::{EdgePath, EdgePathPart};
 use keyvalues::refusal::Refusal;
 
-// 0 once, 1 min, 2 max, the latter two with a number.
+// 0 once; 1 min and 2 max, each with a number.
 #[tactic(auto, unfolding(rules::specs::MapFile::repeat_by))]
 fn read_repeat(reader: &mut Reader) -> Result<EdgeRepeat, Refusal>
     ensures { Reads repeat_of read_repeat reader.old.rest.now result reader.new.rest.now }
@@ -23,7 +23,7 @@ fn read_repeat(reader: &mut Reader) -> Result<EdgeRepeat, Refusal>
     }
 }
 
-// 0 key, 1 class, 2 any, 3 fallthrough, the first two with a value.
+// 0 key and 1 class, each with a value; 2 any, 3 fallthrough.
 #[tactic(auto, unfolding(rules::specs::MapFile::event_by))]
 fn read_event(reader: &mut Reader) -> Result<EdgeEvent, Refusal>
     ensures { Reads event_of read_event reader.old.rest.now result reader.new.rest.now }

@@ -1,8 +1,9 @@
-// Reading bytes from the front: numbers, each a number of groups of seven bits, lowest first, 0x80 set on all but the last, in
+// Reading bytes from the front: numbers, each of seven bits to a byte, the lowest first, 0x80 set on each byte but the last, in
 // the shortest form. A number's range is tested when it is read.
 ghost use Rattle.std.specs.Prelude.{ℕ, Bool, true, ◌≡◌, [], ◌∷◌, ◌≤◌, ◌<◌, leb, ltb, IfOk, IfErr, MatchResult};
 ghost use Rattle.rules.specs.Basics.{accept};
-ghost use Rattle.rules.specs.Numbers.{number};
+ghost use Rattle.rules.specs.Numbers.{number, number_up_to};
+ghost use Rattle.rules.specs.Run.{most_count};
 ghost use Rattle.rules.specs.Values.{Binding};
 ghost use Rattle.rules.specs.MapFile.{such, up_to, at_end};
 ghost use Rattle.keyvalues.specs.View.{told};
@@ -17,21 +18,22 @@ pub struct Reader<'a> {
 }
 
 impl<'a> Reader<'a> {
-    fn byte(&mut self) -> Result<u16, Refusal>
+    fn byte(&mut self) -> Result<u32, Refusal>
         ensures { MatchResult result (λ b. (b < 256) × (self.old.rest.now ≡ b ∷ self.new.rest.now)) (λ e. (e ≡ Refusal.Malformed) × (self.old.rest.now ≡ [])) }
     {
         match self.rest.split_first() {
             Some((b, rest)) => {
                 self.rest = rest;
-                Ok(*b as u16)
+                Ok(*b as u32)
             }
             None => Err(Refusal::Malformed),
         }
     }
 
-    pub fn number(&mut self) -> Result<u16, Refusal>
+    // A number of three groups at most.
+    fn groups(&mut self) -> Result<u32, Refusal>
         ensures malformed { IfErr result (λ e. e ≡ Refusal.Malformed) }
-        ensures reads { Reads (λ n. n) number self.old.rest.now result self.new.rest.now }
+        ensures reads { Reads (λ n. n) (number_up_to 2097151) self.old.rest.now result self.new.rest.now }
     {
         let b = self.byte()?;
         if b < 128 {
@@ -48,11 +50,42 @@ impl<'a> Reader<'a> {
         if d == 0 {
             return Err(Refusal::Malformed);
         }
-        // 4 or more stands for over 65,535, and so does a byte that wants a fourth
-        if 4 <= d {
+        if 128 <= d {
             return Err(Refusal::Malformed);
         }
         Ok((b - 128) + 128 * ((c - 128) + 128 * d))
+    }
+
+    // A larger number is malformed.
+    #[tactic(auto, using(crate::proofs::NumberBy::bad, crate::proofs::NumberBy::over, crate::proofs::NumberBy::within))]
+    fn number_to(&mut self, most: u32) -> Result<u32, Refusal>
+        requires { most ≤ 2097151 }
+        ensures malformed { IfErr result (λ e. e ≡ Refusal.Malformed) }
+        ensures bound { IfOk result (λ n. n ≤ most) }
+        ensures reads { Reads (λ n. n) (number_up_to most) self.old.rest.now result self.new.rest.now }
+    {
+        let n = self.groups()?;
+        if most < n {
+            return Err(Refusal::Malformed);
+        }
+        Ok(n)
+    }
+
+    #[tactic(auto, unfolding(rules::specs::Numbers::number))]
+    pub fn number(&mut self) -> Result<u16, Refusal>
+        ensures malformed { IfErr result (λ e. e ≡ Refusal.Malformed) }
+        ensures reads { Reads (λ n. n) number self.old.rest.now result self.new.rest.now }
+    {
+        let n = self.number_to(65535)?;
+        Ok(n as u16)
+    }
+
+    // A count's number, which goes one further.
+    pub fn count_number(&mut self) -> Result<u32, Refusal>
+        ensures bound { IfOk result (λ n. n ≤ most_count) }
+        ensures reads { Reads (λ n. n) (number_up_to most_count) self.old.rest.now result self.new.rest.now }
+    {
+        self.number_to(65536)
     }
 
     // A number that passes the test.

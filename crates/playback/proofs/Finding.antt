@@ -1,5 +1,6 @@
--- A pair that was written is read back, since its numbers have 16 bits. So pairs that were written are read one after another,
--- and putting the lines of those that are left puts the lines of all.
+-- A pair that was written is read back, since its numbers have 16 bits: where its count was not typed, with a count of 0, and in
+-- any case with the same line. So pairs that were written are read one after another, and putting the lines of those that are left
+-- puts the lines of all.
 use Prim.Native.Nat.{ℕ, ◌≤◌, ◌<◌}
 use native.Mathlib.Omega.{arith}
 use mathlib.Core.Path.{◌≡◌, refl, sym, ap, ◌∙◌}
@@ -8,7 +9,7 @@ use lib.ListN.{length, length-append}
 use Rattle.rules.specs.Basics.{Result, accept, refuse}
 use Rattle.rules.specs.Values.{Pair}
 use Rattle.rules.specs.Numbers.{bytes_of}
-use Rattle.rules.specs.Run.{pair_bytes, line_of, lines_of}
+use Rattle.rules.specs.Run.{count_number, numbered, pair_bytes, decimal, line_of, lines_of}
 use Rattle.mapparts.specs.View.{Page, placed}
 use Rattle.mapparts.proofs.Writing.{place_more, place_stop, place_none}
 use Rattle.mapparts.proofs.KeyBytes.{shorter}
@@ -16,14 +17,23 @@ use Rattle.std.specs.List.{All}
 use Rattle.std.proofs.lemmas.List.Elements.{All-head, All-tail}
 use Rattle.mapfile.specs.View.{Small}
 use Rattle.mapfile.proofs.Round.{read_back}
+use Rattle.rules.proofs.Counts.{count_read_back, same_text}
 use Rattle.playback.specs.View.{read_pair}
 
-pair_back : (p : Pair) (rest : List ℕ) → Small p → read_pair (bytes_of p.action ++ bytes_of p.context.count ++ bytes_of p.context.mark ++ rest) ≡ accept (p, rest)
+-- as it is read back
+abbrev back : Pair → Pair
+back p = record { action = p.action; context = numbered (count_number p.context) p.context.mark }
+
+same_line : (p : Pair) → line_of (back p) ≡ line_of p
+unfolding line_of numbered
+same_line p = ap (λ t. decimal 5 p.action ++ (0x20 ∷ t) ++ (0x20 ∷ decimal 5 p.context.mark) ++ (0x0A ∷ [])) (same_text p.context)
+
+pair_back : (p : Pair) (rest : List ℕ) → Small p → read_pair (bytes_of p.action ++ bytes_of (count_number p.context) ++ bytes_of p.context.mark ++ rest) ≡ accept (back p, rest)
 pair_back p rest h =
     let a = bytes_of p.action in
-    let c = bytes_of p.context.count in
+    let c = bytes_of (count_number p.context) in
     let m = bytes_of p.context.mark in
-    rw (append_assoc (a ++ c) m rest, append_assoc a c (m ++ rest), read_back p.action (c ++ (m ++ rest)) h.0, read_back p.context.count (m ++ rest) h.1, read_back p.context.mark rest h.2) refl
+    rw (append_assoc (a ++ c) m rest, append_assoc a c (m ++ rest), read_back p.action (c ++ (m ++ rest)) h.0, count_read_back p.context (m ++ rest) h.1, read_back p.context.mark rest h.2) refl
 
 -- a number has a byte at least
 some : (n : ℕ) → n ≤ 65535 → 0 < length (bytes_of n)
@@ -45,7 +55,7 @@ module _ (ps : List Pair) (start : Page) where
     pub record Next : Type 0 where
       pub pair : Pair
       pub rest : List Pair
-      pub read : read_pair bytes ≡ accept (pair, pair_bytes rest)
+      pub read : read_pair bytes ≡ accept (back pair, pair_bytes rest)
       pub small : All Small rest
       pub whole : placed (lines_of (pair ∷ rest)) now ≡ placed (lines_of ps) start
 
@@ -58,14 +68,14 @@ module _ (ps : List Pair) (start : Page) where
         go (p ∷ rest) e s w = record { pair = p; rest = rest; read = ap read_pair e ∙ pair_back p (pair_bytes rest) (All-head Small p rest s); small = All-tail Small p rest s; whole = w }
 
     pub left_bad : (n : ℕ) → (length bytes ≡ 0 → ⊥) → refuse n ≡ read_pair bytes → refuse n ≡ placed (lines_of ps) start
-    left_bad n h e = let k : ◌≡◌ {A = Result (Pair × List ℕ)} (refuse n) (accept ((next h).pair, pair_bytes (next h).rest)) = e ∙ (next h).read in absurd (cc)
+    left_bad n h e = let k : ◌≡◌ {A = Result (Pair × List ℕ)} (refuse n) (accept (back (next h).pair, pair_bytes (next h).rest)) = e ∙ (next h).read in absurd (cc)
 
     module _ (p : Pair) (more : List ℕ) (h : length bytes ≡ 0 → ⊥) (e : accept (p, more) ≡ read_pair bytes) where
-      same : ◌≡◌ {A = Pair × List ℕ} (p, more) ((next h).pair, pair_bytes (next h).rest)
-      same = let k : ◌≡◌ {A = Result (Pair × List ℕ)} (accept (p, more)) (accept ((next h).pair, pair_bytes (next h).rest)) = e ∙ (next h).read in cc
+      same : ◌≡◌ {A = Pair × List ℕ} (p, more) (back (next h).pair, pair_bytes (next h).rest)
+      same = let k : ◌≡◌ {A = Result (Pair × List ℕ)} (accept (p, more)) (accept (back (next h).pair, pair_bytes (next h).rest)) = e ∙ (next h).read in cc
 
       line : line_of p ≡ line_of (next h).pair
-      line = ap (λ (x : Pair × List ℕ). line_of x.0) same
+      line = ap (λ (x : Pair × List ℕ). line_of x.0) same ∙ same_line (next h).pair
 
       pub left_next : (q : Page) → accept q ≡ placed (line_of p) now → Left ps start more q
       unfolding lines_of

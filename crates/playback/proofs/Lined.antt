@@ -1,11 +1,11 @@
 -- A text that is put by one call behind another is put at once: behind a page that was reached the next part is placed, and behind a
 -- refusal nothing is.
 use Prim.Native.Nat.{ℕ}
-use mathlib.Core.Path.{◌≡◌, refl, sym, ap, ◌∙◌}
+use mathlib.Core.Path.{◌≡◌, sym, ap, ◌∙◌}
 use mathlib.Core.List.{List, [], ◌∷◌, ◌++◌}
-use Rattle.rules.specs.Basics.{Result, accept, refuse, ◌>>=◌}
-use Rattle.rules.specs.Values.{Pair, pair}
-use Rattle.rules.specs.Run.{decimal, line_of, lines_of, heading, refusal, text_of}
+use Rattle.rules.specs.Basics.{accept}
+use Rattle.rules.specs.Values.{Context, Pair}
+use Rattle.rules.specs.Run.{decimal, count_text, line_of, lines_of, heading, refusal, text_of}
 use Rattle.mapparts.specs.View.{Page, placed}
 use Rattle.mapparts.proofs.Writing.{placed_append, then_put, then_on, then_stop}
 
@@ -16,12 +16,12 @@ joined xs ys p = sym (placed_append xs ys p.0 p.1)
 pub column_parts : (v : ℕ) (p : Page) → placed (0x20 ∷ decimal 5 v) p ≡ then_put placed (placed (0x20 ∷ []) p) (decimal 5 v)
 column_parts v p = joined (0x20 ∷ []) (decimal 5 v) p
 
-pub line_parts : (a c m : ℕ) (p : Page) → placed (line_of (pair a c m)) p ≡ then_put placed (then_put placed (then_put placed (placed (decimal 5 a) p) (0x20 ∷ decimal 5 c)) (0x20 ∷ decimal 5 m)) (0x0A ∷ [])
+pub line_parts : (a : ℕ) (c : Context) (p : Page) → placed (line_of (record { action = a; context = c })) p ≡ then_put placed (then_put placed (then_put placed (placed (decimal 5 a) p) (0x20 ∷ count_text c)) (0x20 ∷ decimal 5 c.mark)) (0x0A ∷ [])
 unfolding line_of
-line_parts a c m p =
+line_parts a c p =
     let x : List ℕ = decimal 5 a in
-    let y : List ℕ = 0x20 ∷ decimal 5 c in
-    let z : List ℕ = 0x20 ∷ decimal 5 m in
+    let y : List ℕ = 0x20 ∷ count_text c in
+    let z : List ℕ = 0x20 ∷ decimal 5 c.mark in
     joined (x ++ y ++ z) (0x0A ∷ []) p
     ∙ ap (λ r. then_put placed r (0x0A ∷ [])) (joined (x ++ y) z p ∙ ap (λ r. then_put placed r z) (joined x y p))
 

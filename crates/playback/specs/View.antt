@@ -5,10 +5,10 @@ use Rattle.std.specs.Fn.{Once}
 use denote.Ref.{Bor, MutBor}
 use Rattle.std.specs.List.{All}
 use Rattle.rules.specs.Basics.{Result, accept, refuse, unless}
-use Rattle.rules.specs.Values.{Pair, pair}
-use Rattle.rules.specs.Numbers.{number}
+use Rattle.rules.specs.Values.{Pair}
+use Rattle.rules.specs.Numbers.{number, number_up_to}
 use Rattle.rules.specs.MapFile.{Reader, ◌>>=◌, give}
-use Rattle.rules.specs.Run.{pair_bytes, play_input}
+use Rattle.rules.specs.Run.{most_count, numbered, pair_bytes, play_input}
 use Rattle.keyvalues.specs.declared.refusal.Refusal.{Refusal}
 use Rattle.keyvalues.specs.View.{number_of}
 use Rattle.mapfile.specs.View.{Small}
@@ -17,13 +17,13 @@ use Rattle.mapfile.specs.View.{Small}
 abbrev pub printed : List ℕ → List ℕ → Result ℕ × List ℕ
 printed lent text = if leb (length text) (length lent) then (accept (length text), text ++ drop (length text) lent) else (refuse 10, replicate (length lent) 0)
 
--- a pair is three numbers
+-- a pair is three numbers, the second that of its count
 abbrev pub read_pair : Reader Pair
 read_pair = do
   action ← number
-  count ← number
+  count ← number_up_to most_count
   mark ← number
-  give (pair action count mark)
+  give (record { action = action; context = numbered count mark })
 
 -- what an input comes to: 9 where it is longer than a program takes
 abbrev pub played : List ℕ → Result (List Pair)

@@ -2,8 +2,8 @@
 ghost use Rattle.std.specs.List.{All};
 ghost use Rattle.std.specs.Prelude.{◌≡◌, List, ◌∷◌, ◌≤◌, ◌<◌, length, IfOk};
 ghost use Rattle.rules.specs.Values.{Pair as AnyPair};
-ghost use Rattle.rules.specs.Run.{pair_bytes, decimal, line_of, lines_of};
-ghost use Rattle.keypairs.specs.View.{pair_by};
+ghost use Rattle.rules.specs.Run.{pair_bytes, decimal, count_text, line_of, lines_of};
+ghost use Rattle.keypairs.specs.View.{context_of, pair_by};
 ghost use Rattle.mapparts.specs.View.{Reads, Writes, placed};
 ghost use Rattle.mapfile.specs.View.{Small};
 ghost use Rattle.playback.specs.View.{read_pair};
@@ -15,18 +15,16 @@ use keyvalues::refusal::Refusal;
 use mapparts::reader::Reader;
 use mapparts::writer::Writer;
 
-#[tactic(auto, using(mapparts::proofs::KeyBytes::shorter))]
+#[tactic(auto, using(mapparts::proofs::KeyBytes::shorter, mapparts::proofs::KeyBytes::shorter_to))]
 fn read_pair(reader: &mut Reader) -> Result<Pair, Refusal>
     ensures onward { IfOk result (λ _. length reader.new.rest.now < length reader.old.rest.now) }
     ensures reads { Reads pair_by read_pair reader.old.rest.now result reader.new.rest.now }
 {
     let action = reader.number()?;
-    let count = reader.number()?;
+    let count = reader.count_number()?;
     let mark = reader.number()?;
-    Ok(Pair {
-        action,
-        context: Context { count, mark },
-    })
+    let context = Context::numbered(count, mark).ok_or(Refusal::Malformed)?;
+    Ok(Pair { action, context })
 }
 
 // A space, and a number behind it.
@@ -38,12 +36,23 @@ fn put_column(writer: &mut Writer, value: u16) -> Result<(), Refusal>
     put::put_decimal(writer, value, 5)
 }
 
+// A space, and the count behind it, or a dash for none.
+#[tactic(auto, unfolding(rules::specs::Run::count_text))]
+fn put_count(writer: &mut Writer, context: Context) -> Result<(), Refusal>
+    ensures { Writes (placed (0x20 ∷ count_text (context_of context))) writer.old result writer.new }
+{
+    if context.typed {
+        return put_column(writer, context.count);
+    }
+    writer.put_bytes(b" -")
+}
+
 #[tactic(auto, using(crate::proofs::Lined::parts_placed))]
 fn put_line(writer: &mut Writer, pair: Pair) -> Result<(), Refusal>
     ensures { Writes (placed (line_of (pair_by pair))) writer.old result writer.new }
 {
     put::put_decimal(writer, pair.action, 5)?;
-    put_column(writer, pair.context.count)?;
+    put_count(writer, pair.context)?;
     put_column(writer, pair.context.mark)?;
     writer.put_bytes(b"\n")?;
     Ok(())

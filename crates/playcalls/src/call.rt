@@ -72,16 +72,26 @@ pub(crate) fn read_binding(input: &mut Reader) -> Result<Option<Binding>, Refusa
     }
 }
 
-// 0, or 1 with a count and a mark; any other number is a malformed call.
-fn read_override(input: &mut Reader) -> Result<Option<Context>, Refusal> {
+// 0 or 1; any other number is a malformed call.
+fn read_flag(input: &mut Reader) -> Result<bool, Refusal> {
     match input.number()? {
-        0 => Ok(None),
-        1 => Ok(Some(Context {
-            count: input.number()?,
-            mark: input.number()?,
-        })),
+        0 => Ok(false),
+        1 => Ok(true),
         _ => Err(Refusal::Malformed),
     }
+}
+
+// 0, or 1 with whether the count is typed, the count and the mark.
+fn read_override(input: &mut Reader) -> Result<Option<Context>, Refusal> {
+    if !read_flag(input)? {
+        return Ok(None);
+    }
+    let typed = read_flag(input)?;
+    Ok(Some(Context {
+        count: input.number()?,
+        typed,
+        mark: input.number()?,
+    }))
 }
 
 impl Call {

@@ -1,4 +1,5 @@
 // Answers, without the mode that ends each line.
+use keypairs::context::Context;
 use keypairs::pair::Pair;
 use keyvalues::refusal::Refusal;
 use std::io;
@@ -30,11 +31,20 @@ pub(crate) fn pressed<W: Write>(
     write!(out, " rounds {rounds}")
 }
 
+// The count, or a dash for none.
+fn counted<W: Write>(out: &mut W, context: Context) -> io::Result<()> {
+    if context.typed {
+        return write!(out, "{}", context.count);
+    }
+    write!(out, "-")
+}
+
 pub(crate) fn waiting<W: Write>(out: &mut W, answer: Option<Pair>) -> io::Result<()> {
     match answer {
         Some(pair) => {
-            let x = pair.context;
-            write!(out, "pair {} {} {}", pair.action, x.count, x.mark)
+            write!(out, "pair {} ", pair.action)?;
+            counted(out, pair.context)?;
+            write!(out, " {}", pair.context.mark)
         }
         None => write!(out, "nothing"),
     }

@@ -146,12 +146,12 @@ module _ {P : Type 0} (nav : Navigator P) (c : Shared) where
   abbrev pub TrailLeads : P → Type 0
   TrailLeads q = Leads nav c.tables.classes (nav.root c.mode) c.trail q
 
-  -- then that place is taken and the trail kept
+  -- where it does, the place is taken, and the trail stays
   pub place_taken : (q : P) → TrailLeads q → resume nav c ≡ at q c
   unfolding resume walked
   place_taken q h = rw (leads_walk nav c.tables.classes h) refl
 
-  -- otherwise the place is the root and the trail is empty
+  -- where it does not, the place is that root, and no key is left on the trail
   pub trail_lost : ((q : P) → TrailLeads q → ⊥) → resume nav c ≡ at (nav.root c.mode) (with_trail [] c)
   unfolding resume walked
   trail_lost h = go (walk nav c.tables.classes c.trail (nav.root c.mode)) refl

@@ -4,6 +4,7 @@
 use Prim.Native.Nat.{ℕ, ◌+◌, ◌-◌, ◌*◌, ◌≤◌, ◌<◌}
 use native.Mathlib.Omega.{arith}
 use mathlib.Core.Path.{◌≡◌, refl}
+use mathlib.Core.Bool.{Bool, true}
 use mathlib.Core.List.{List, [], ◌∷◌}
 use mathlib.Core.Logic.{◌⊎◌, inl, inr}
 use lib.Dec.{leb}
@@ -23,6 +24,16 @@ abbrev pub written_behind : ℕ → List ℕ → ℕ
 written_behind n [] = n
 written_behind n (d ∷ ds) = written_behind (n * 10 + d) ds
 
+-- whether the count is typed behind them: with any digit it is
+abbrev pub typed_behind : Bool → List ℕ → Bool
+typed_behind typed [] = typed
+typed_behind typed (d ∷ ds) = true
+
+-- what is typed stays so
+stays_typed : (ds : List ℕ) → typed_behind true ds ≡ true
+stays_typed [] = refl
+stays_typed (d ∷ ds) = refl
+
 -- a further digit makes it no smaller
 grows : (n : ℕ) (ds : List ℕ) → n ≤ written_behind n ds
 grows n [] = omega arith
@@ -34,19 +45,19 @@ unfolding hook
 digit_counts d c h = let e : 48 + d - 48 ≡ d = omega arith in rw (le-leb 48 (48 + d) (omega arith), le-leb (48 + d) 57 (omega arith), e) refl
 
 pub digits_count_or_overflow : (ds : List ℕ) → Each (λ d. d ≤ 9) ds → (c : Context) → c.count ≤ largest → let n = written_behind c.count ds in
-    count_digits ds c ≡ unless (leb n largest) 12 (accept (record { count = n; mark = c.mark }))
+    count_digits ds c ≡ unless (leb n largest) 12 (accept (record { count = n; typed = typed_behind c.typed ds; mark = c.mark }))
 unfolding counted
 digits_count_or_overflow [] h c l = rw (le-leb c.count largest l) refl
-digits_count_or_overflow (d ∷ ds) h c l = rw (digit_counts d c h.0) (go (side largest next) (λ fits. digits_count_or_overflow ds h.1 with_digit fits))
+digits_count_or_overflow (d ∷ ds) h c l = rw (digit_counts d c h.0) (go (side largest next) (λ fits. rw (stays_typed ds) at (digits_count_or_overflow ds h.1 with_digit fits)))
   where
     next : ℕ
     next = c.count * 10 + d
 
     with_digit : Context
-    with_digit = record { count = next; mark = c.mark }
+    with_digit = record { count = next; typed = true; mark = c.mark }
 
     all : Result Context
-    all = let n = written_behind next ds in unless (leb n largest) 12 (accept (record { count = n; mark = c.mark }))
+    all = let n = written_behind next ds in unless (leb n largest) 12 (accept (record { count = n; typed = true; mark = c.mark }))
 
     go : (largest < next) ⊎ (next ≤ largest) → (next ≤ largest → count_digits ds with_digit ≡ all) → (unless (leb next largest) 12 (accept with_digit) >>= count_digits ds) ≡ all
     go (inl over) on = rw (lt-leb next largest over, lt-leb (written_behind next ds) largest (omega (arith, over, grows next ds))) refl

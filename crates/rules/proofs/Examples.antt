@@ -7,7 +7,7 @@ use mathlib.Core.Option.{none, some}
 use mathlib.Core.List.{List, [], ◌∷◌, ◌++◌, map}
 use lib.ListN.{replicate}
 use Rattle.rules.specs.Basics.{Result, accept, refuse, ◌>>=◌, open-Basics}
-use Rattle.rules.specs.Values.{Event, Key, Class, Any, Fallthrough, Min, Step, default_step, Binding, Maps, Prefixes, pair, open-Values}
+use Rattle.rules.specs.Values.{Event, Key, Class, Any, Fallthrough, Min, Step, default_step, Binding, Maps, Prefixes, no_context, pair, open-Values}
 use Rattle.rules.specs.Tables.{ClassEntry, no_entry, Tables, no_tables, open-Tables}
 use Rattle.rules.specs.Graph.{Edge, Follow, Successor, FallsTo, NoSuccessor, open-Graph}
 use Rattle.rules.specs.OnePass.{better, open-OnePass}
@@ -15,7 +15,7 @@ use Rattle.rules.specs.KeyLoop.{open-KeyLoop}
 use Rattle.rules.specs.Calls.{Call, Open, Map, Prefix, Pop, Repeats, Reset, Change, Accepted, Refused, Nothing, PressRefused, graph_kind, fresh, leaves, open-Calls}
 use Rattle.rules.specs.Numbers.{number, open-Numbers}
 use Rattle.rules.specs.MapFile.{read_map, open-MapFile}
-use Rattle.rules.specs.Run.{pair_bytes, run, code_of, output_of, keyplay, open-Run}
+use Rattle.rules.specs.Run.{count_number, most_count, numbered, pair_bytes, run, code_of, output_of, keyplay, open-Run}
 use Rattle.rules.specs.Writing.{file_of, write_call, open-Writing}
 use Rattle.rules.proofs.Table.{Tried, ◌⇒◌, part, once, one, two, three, does, key_within, key, rounds, gives, in_a_row, a, b, j, k, q, r, z, digits, tracking, doubles, Row, row, try_all, step_held, outcome}
 
@@ -28,8 +28,8 @@ reset_keeps_the_trail = row (
     ++ (key j ⇒ rounds 1
     ∷ Reset ⇒ Accepted
     ∷ key q ⇒ rounds 2
-    ∷ Pop ⇒ gives 0 0 0
-    ∷ Pop ⇒ gives 0 0 0
+    ∷ Pop ⇒ gives 0 none 0
+    ∷ Pop ⇒ gives 0 none 0
     ∷ Pop ⇒ Nothing
     ∷ []))
 
@@ -38,11 +38,11 @@ abbrev pub repeat_stores_the_merged_pairs : Row
 repeat_stores_the_merged_pairs = row (
     Open tracking ⇒ Accepted
     ∷ key a ⇒ rounds 1
-    ∷ Pop ⇒ gives 0 0 0
-    ∷ Repeats 0 (some (record { count = 5; mark = 9 })) ⇒ Accepted
-    ∷ Pop ⇒ gives 0 5 9
-    ∷ Repeats 0 (some (record { count = 0; mark = 3 })) ⇒ Accepted
-    ∷ Pop ⇒ gives 0 5 3
+    ∷ Pop ⇒ gives 0 none 0
+    ∷ Repeats 0 (some (record { count = 5; typed = true; mark = 9 })) ⇒ Accepted
+    ∷ Pop ⇒ gives 0 (some 5) 9
+    ∷ Repeats 0 (some (record { count = 0; typed = false; mark = 3 })) ⇒ Accepted
+    ∷ Pop ⇒ gives 0 (some 5) 3
     ∷ Pop ⇒ Nothing
     ∷ [])
 
@@ -52,11 +52,11 @@ repeated_pairs_are_not_tracked_again = row (
     Open tracking ⇒ Accepted
     ∷ Map 0 (one Any) (does 1) ⇒ Accepted
     ∷ key a ⇒ rounds 1
-    ∷ Repeats 0 (some (record { count = 5; mark = 0 })) ⇒ Accepted
-    ∷ Pop ⇒ gives 1 5 97
-    ∷ Pop ⇒ gives 1 0 97
+    ∷ Repeats 0 (some (record { count = 5; typed = true; mark = 0 })) ⇒ Accepted
+    ∷ Pop ⇒ gives 1 (some 5) 97
+    ∷ Pop ⇒ gives 1 none 97
     ∷ Repeats 0 none ⇒ Accepted
-    ∷ Pop ⇒ gives 1 5 97
+    ∷ Pop ⇒ gives 1 (some 5) 97
     ∷ Pop ⇒ Nothing
     ∷ [])
 
@@ -69,8 +69,8 @@ the_flag_of_a_step_reached_by_fallthrough = row (
     Map 0 (two (Key a) Fallthrough) (flagged 1) ⇒ Accepted
     ∷ key a ⇒ rounds 1
     ∷ key q ⇒ rounds 2
-    ∷ Pop ⇒ gives 1 0 0
-    ∷ Pop ⇒ gives 0 0 0
+    ∷ Pop ⇒ gives 1 none 0
+    ∷ Pop ⇒ gives 0 none 0
     ∷ Pop ⇒ Nothing
     ∷ [])
 
@@ -79,12 +79,12 @@ abbrev pub the_flag_of_a_step_that_a_key_leads_to : Row
 the_flag_of_a_step_that_a_key_leads_to = row (
     Map 0 (one (Key a)) (flagged 1) ⇒ Accepted
     ∷ key a ⇒ rounds 1
-    ∷ Pop ⇒ gives 0 0 0
+    ∷ Pop ⇒ gives 0 none 0
     ∷ Map 0 (two (Key a) (Key b)) (does 2) ⇒ Accepted
     ∷ key a ⇒ rounds 1
     ∷ Pop ⇒ Nothing
     ∷ key b ⇒ rounds 1
-    ∷ Pop ⇒ gives 2 0 0
+    ∷ Pop ⇒ gives 2 none 0
     ∷ Pop ⇒ Nothing
     ∷ [])
 
@@ -95,9 +95,9 @@ key_before_class = row (
     ∷ Map 0 (one (Class 0)) (does 1) ⇒ Accepted
     ∷ Map 0 (one (Key 52)) (does 2) ⇒ Accepted
     ∷ key 52 ⇒ rounds 1
-    ∷ Pop ⇒ gives 2 0 0
+    ∷ Pop ⇒ gives 2 none 0
     ∷ key 50 ⇒ rounds 1
-    ∷ Pop ⇒ gives 1 2 0
+    ∷ Pop ⇒ gives 1 (some 2) 0
     ∷ Pop ⇒ Nothing
     ∷ [])
 
@@ -116,10 +116,10 @@ first_membership = row (
     ∷ Map 0 (one Any) (does 1) ⇒ Accepted
     ∷ Map 0 (one (Class 2)) (does 2) ⇒ Accepted
     ∷ key a ⇒ rounds 1
-    ∷ Pop ⇒ gives 2 0 0
+    ∷ Pop ⇒ gives 2 none 0
     ∷ Map 0 (one (Class 3)) (does 3) ⇒ Accepted
     ∷ key a ⇒ rounds 1
-    ∷ Pop ⇒ gives 3 0 0
+    ∷ Pop ⇒ gives 3 none 0
     ∷ [])
 
 -- of 70000 the last digit is refused, and the count stays 7000. 65,536 is one too many, and 65,535 is counted: the digit that
@@ -133,14 +133,14 @@ the_count_overflows = row (
     ∷ replicate 3 (key 48 ⇒ rounds 1)
     ++ (key 48 ⇒ PressRefused 12 1
     ∷ key r ⇒ rounds 1
-    ∷ Pop ⇒ gives 7 7000 0
+    ∷ Pop ⇒ gives 7 (some 7000) 0
     ∷ replicate 9 (key 48 ⇒ rounds 1)
     ++ (in_a_row (54 ∷ 53 ∷ 53 ∷ 51 ∷ [])
     ++ (key 54 ⇒ PressRefused 12 1
     ∷ key 53 ⇒ rounds 1
     ∷ key 48 ⇒ PressRefused 12 1
     ∷ key r ⇒ rounds 1
-    ∷ Pop ⇒ gives 7 65535 0
+    ∷ Pop ⇒ gives 7 (some 65535) 0
     ∷ Pop ⇒ Nothing
     ∷ []))))
 
@@ -155,7 +155,7 @@ digits_that_do_not_count = row (
     ∷ in_a_row (54 ∷ 53 ∷ 53 ∷ 51 ∷ 53 ∷ 50 ∷ 52 ∷ [])
     ++ (key 48 ⇒ PressRefused 12 1
     ∷ key r ⇒ rounds 1
-    ∷ Pop ⇒ gives 7 65535 0
+    ∷ Pop ⇒ gives 7 (some 65535) 0
     ∷ []))
 
 -- 64 digits are on the trail and all may need more: a zero with a count of 65,535 is 12, and with one of 0 it is 7
@@ -168,7 +168,7 @@ an_overflow_before_a_full_trail = row (
     ++ (in_a_row (54 ∷ 53 ∷ 53 ∷ 51 ∷ 53 ∷ [])
     ++ (key 48 ⇒ PressRefused 12 1
     ∷ key r ⇒ rounds 1
-    ∷ Pop ⇒ gives 7 65535 0
+    ∷ Pop ⇒ gives 7 (some 65535) 0
     ∷ key 48 ⇒ rounds 2
     ∷ replicate 63 (key 48 ⇒ rounds 1)
     ++ (key 48 ⇒ PressRefused 7 1
@@ -188,7 +188,7 @@ an_overflow_gives_nothing = row (
     ∷ key 57 ⇒ PressRefused 12 1
     ∷ Pop ⇒ Nothing
     ∷ key r ⇒ rounds 1
-    ∷ Pop ⇒ gives 8 7000 0
+    ∷ Pop ⇒ gives 8 (some 7000) 0
     ∷ Pop ⇒ Nothing
     ∷ replicate 256 (key q ⇒ rounds 1)
     ++ (key 55 ⇒ rounds 1
@@ -223,7 +223,7 @@ an_overflow_of_keys_tried_again = row (
     ∷ key_within 5 z ⇒ PressRefused 8 5
     ∷ Pop ⇒ Nothing
     ∷ key r ⇒ rounds 1
-    ∷ Pop ⇒ gives 7 0 0
+    ∷ Pop ⇒ gives 7 none 0
     ∷ Pop ⇒ Nothing
     ∷ []))
 
@@ -233,10 +233,10 @@ one_take_for_all_actions = row (
     Map 0 (one Any) (record { flag = false; actions = 1 ∷ 2 ∷ []; next = none; fallthrough = none; mark = none }) ⇒ Accepted
     ∷ Map 0 (one (Key b)) (record { flag = false; actions = 3 ∷ []; next = none; fallthrough = none; mark = some 9 }) ⇒ Accepted
     ∷ key a ⇒ rounds 1
-    ∷ Pop ⇒ gives 1 0 97
-    ∷ Pop ⇒ gives 2 0 97
+    ∷ Pop ⇒ gives 1 none 97
+    ∷ Pop ⇒ gives 2 none 97
     ∷ key b ⇒ rounds 1
-    ∷ Pop ⇒ gives 3 0 9
+    ∷ Pop ⇒ gives 3 none 9
     ∷ Pop ⇒ Nothing
     ∷ [])
 
@@ -254,10 +254,10 @@ the_rules_of_the_entered_mode = row (
     Open entering ⇒ Accepted
     ∷ Map 0 (one (Key a)) (record { flag = false; actions = 1 ∷ []; next = some 1; fallthrough = none; mark = none }) ⇒ Accepted
     ∷ key a ⇒ rounds 1
-    ∷ Pop ⇒ gives 1 0 0
-    ∷ Pop ⇒ gives 5 0 0
+    ∷ Pop ⇒ gives 1 none 0
+    ∷ Pop ⇒ gives 5 none 0
     ∷ Repeats 0 none ⇒ Accepted
-    ∷ Pop ⇒ gives 5 0 0
+    ∷ Pop ⇒ gives 5 none 0
     ∷ Pop ⇒ Nothing
     ∷ [])
 
@@ -276,9 +276,9 @@ the_unmapped_list_of_the_nodes_mode = row (
     ∷ Map 0 (one (Key a)) (record { flag = false; actions = []; next = none; fallthrough = some 1; mark = none }) ⇒ Accepted
     ∷ key a ⇒ rounds 1
     ∷ key q ⇒ rounds 2
-    ∷ Pop ⇒ gives 11 0 0
+    ∷ Pop ⇒ gives 11 none 0
     ∷ key q ⇒ rounds 1
-    ∷ Pop ⇒ gives 10 0 0
+    ∷ Pop ⇒ gives 10 none 0
     ∷ Pop ⇒ Nothing
     ∷ [])
 
@@ -290,7 +290,7 @@ a_trail_of_64 = row (
     ∷ replicate 63 (key a ⇒ rounds 1)
     ++ (key a ⇒ PressRefused 7 1
     ∷ key b ⇒ rounds 1
-    ∷ Pop ⇒ gives 1 0 0
+    ∷ Pop ⇒ gives 1 none 0
     ∷ []))
 
 -- prefix ab: b is consumed, so a is no longer on the trail and q takes one round
@@ -301,7 +301,7 @@ a_consumed_key_clears_the_trail = row (
     ∷ key b ⇒ rounds 1
     ∷ Pop ⇒ Nothing
     ∷ key q ⇒ rounds 1
-    ∷ Pop ⇒ gives 0 0 0
+    ∷ Pop ⇒ gives 0 none 0
     ∷ Pop ⇒ Nothing
     ∷ [])
 
@@ -311,9 +311,9 @@ a_run_step_clears_the_trail = row (
     Map 0 (two (Key a) (Key b)) (does 1) ⇒ Accepted
     ∷ key a ⇒ rounds 1
     ∷ key b ⇒ rounds 1
-    ∷ Pop ⇒ gives 1 0 0
+    ∷ Pop ⇒ gives 1 none 0
     ∷ key q ⇒ rounds 1
-    ∷ Pop ⇒ gives 0 0 0
+    ∷ Pop ⇒ gives 0 none 0
     ∷ Pop ⇒ Nothing
     ∷ [])
 
@@ -323,7 +323,7 @@ an_empty_path = row (
     Map 0 [] (does 1) ⇒ Accepted
     ∷ Map 16 [] (does 1) ⇒ Refused 1
     ∷ key a ⇒ rounds 1
-    ∷ Pop ⇒ gives 0 0 0
+    ∷ Pop ⇒ gives 0 none 0
     ∷ [])
 
 -- 1,024 calls are kept: those with an empty path, and none that was refused. One more is 11, whatever it would bind, and changes
@@ -344,9 +344,9 @@ the_calls_that_are_kept = row (
     ∷ Prefix 16 [] none ⇒ Refused 1
     ∷ Map 0 (two (Key a) Fallthrough) (does 1) ⇒ Refused 4
     ∷ key a ⇒ rounds 1
-    ∷ Pop ⇒ gives 1 0 0
+    ∷ Pop ⇒ gives 1 none 0
     ∷ key b ⇒ rounds 1
-    ∷ Pop ⇒ gives 0 0 0
+    ∷ Pop ⇒ gives 0 none 0
     ∷ Open digits ⇒ Accepted
     ∷ Map 0 [] (does 1) ⇒ Accepted
     ∷ []))
@@ -368,8 +368,8 @@ a_change_walks_the_trail = row (
     ∷ key j ⇒ rounds 1
     ∷ Change no_tables (Maps 0 (two (Key j) (Key j)) (does 3) ∷ []) ⇒ Accepted
     ∷ key j ⇒ rounds 1
-    ∷ Pop ⇒ gives 0 0 0
-    ∷ Pop ⇒ gives 3 0 0
+    ∷ Pop ⇒ gives 0 none 0
+    ∷ Pop ⇒ gives 3 none 0
     ∷ Pop ⇒ Nothing
     ∷ []))
 
@@ -385,7 +385,7 @@ a_change_after_a_reset = row (
     ∷ Reset ⇒ Accepted
     ∷ Change no_tables the_same_map ⇒ Accepted
     ∷ key j ⇒ rounds 1
-    ∷ Pop ⇒ gives 1 0 0
+    ∷ Pop ⇒ gives 1 none 0
     ∷ Pop ⇒ Nothing
     ∷ []))
 
@@ -401,7 +401,7 @@ a_trail_of_two_runs = row (
     ∷ key j ⇒ rounds 1
     ∷ Pop ⇒ Nothing
     ∷ key j ⇒ rounds 1
-    ∷ Pop ⇒ gives 1 0 0
+    ∷ Pop ⇒ gives 1 none 0
     ∷ Pop ⇒ Nothing
     ∷ []))
 
@@ -412,7 +412,7 @@ a_key_that_had_fallen = row (
     ∷ key a ⇒ rounds 2
     ∷ Change no_tables (Maps 0 (part (Min 0) (Key a) ∷ once (Key b) ∷ []) (does 1) ∷ []) ⇒ Accepted
     ∷ key b ⇒ rounds 2
-    ∷ Pop ⇒ gives 1 0 0
+    ∷ Pop ⇒ gives 1 none 0
     ∷ Pop ⇒ Nothing
     ∷ [])
 
@@ -429,9 +429,9 @@ half_typed_then xs ts = row (
 abbrev pub b_needs_more : Row
 b_needs_more = half_typed_then (Maps 0 (three (Key a) (Key b) (Key q)) (does 2) ∷ Maps 0 (one (Key b)) (does 3) ∷ []) (
     key z ⇒ rounds 3
-    ∷ Pop ⇒ gives 0 0 0
-    ∷ Pop ⇒ gives 3 0 0
-    ∷ Pop ⇒ gives 0 0 0
+    ∷ Pop ⇒ gives 0 none 0
+    ∷ Pop ⇒ gives 3 none 0
+    ∷ Pop ⇒ gives 0 none 0
     ∷ Pop ⇒ Nothing
     ∷ [])
 
@@ -439,13 +439,13 @@ b_needs_more = half_typed_then (Maps 0 (three (Key a) (Key b) (Key q)) (does 2) 
 abbrev pub b_comes_to_a_flag_with_edges : Row
 b_comes_to_a_flag_with_edges = half_typed_then (Maps 0 (two (Key a) (Key b)) (flagged 2) ∷ Maps 0 (three (Key a) (Key b) (Key j)) (does 3) ∷ []) (
     key j ⇒ rounds 1
-    ∷ Pop ⇒ gives 3 0 0
+    ∷ Pop ⇒ gives 3 none 0
     ∷ Pop ⇒ Nothing
     ∷ [])
 
--- the place is the root and the trail is empty: a needs more there, and at q it alone is given up
+-- the place is the root, with no key on the trail: a needs more there, and at q it alone is given up
 abbrev pub all_is_lost : List Tried
-all_is_lost = key a ⇒ rounds 1 ∷ key q ⇒ rounds 2 ∷ Pop ⇒ gives 0 0 0 ∷ Pop ⇒ gives 0 0 0 ∷ Pop ⇒ Nothing ∷ []
+all_is_lost = key a ⇒ rounds 1 ∷ key q ⇒ rounds 2 ∷ Pop ⇒ gives 0 none 0 ∷ Pop ⇒ gives 0 none 0 ∷ Pop ⇒ Nothing ∷ []
 
 -- all is lost where b would run a step, is consumed, has no edge, or comes to a flagged step without edges
 abbrev pub b_would_run_a_step : Row
@@ -464,17 +464,17 @@ b_comes_to_a_flag = half_typed_then (Maps 0 (two (Key a) (Key b)) (flagged 2) �
 abbrev pub b_falls_to_a_step : Row
 b_falls_to_a_step = half_typed_then (Maps 0 (two (Key a) Fallthrough) (does 2) ∷ []) (
     key q ⇒ rounds 1
-    ∷ Pop ⇒ gives 0 0 0
+    ∷ Pop ⇒ gives 0 none 0
     ∷ key a ⇒ rounds 1
     ∷ key q ⇒ rounds 2
-    ∷ Pop ⇒ gives 2 0 0
-    ∷ Pop ⇒ gives 0 0 0
+    ∷ Pop ⇒ gives 2 none 0
+    ∷ Pop ⇒ gives 0 none 0
     ∷ Pop ⇒ Nothing
     ∷ [])
 
 -- the place is the root, where j has no edge
 abbrev pub j_is_unmapped : List Tried
-j_is_unmapped = key j ⇒ rounds 1 ∷ Pop ⇒ gives 0 0 0 ∷ Pop ⇒ Nothing ∷ []
+j_is_unmapped = key j ⇒ rounds 1 ∷ Pop ⇒ gives 0 none 0 ∷ Pop ⇒ Nothing ∷ []
 
 -- so it is where b falls to an empty node or to a root, from which it would need more: j gives no 2
 abbrev pub b_falls_to_a_node : Row
@@ -492,15 +492,15 @@ a_change_in_mode_1 = row (
     Map 0 (one (Key z)) (enters 1) ⇒ Accepted
     ∷ Map 1 (two (Key j) (Key b)) (does 5) ⇒ Accepted
     ∷ key z ⇒ rounds 1
-    ∷ Pop ⇒ gives 0 0 0
+    ∷ Pop ⇒ gives 0 none 0
     ∷ key j ⇒ rounds 1
     ∷ Change no_tables (Maps 0 (two (Key j) (Key b)) (does 4) ∷ Maps 1 (two (Key j) (Key b)) (does 6) ∷ []) ⇒ Accepted
     ∷ key b ⇒ rounds 1
-    ∷ Pop ⇒ gives 6 0 0
+    ∷ Pop ⇒ gives 6 none 0
     ∷ key j ⇒ rounds 1
     ∷ Change no_tables (Maps 0 (one (Key b)) (does 7) ∷ Maps 1 (one (Key b)) (does 8) ∷ []) ⇒ Accepted
     ∷ key b ⇒ rounds 1
-    ∷ Pop ⇒ gives 8 0 0
+    ∷ Pop ⇒ gives 8 none 0
     ∷ Pop ⇒ Nothing
     ∷ [])
 
@@ -514,7 +514,7 @@ a_change_after_a_fallthrough =
     ∷ key b ⇒ rounds 2
     ∷ Change no_tables xs ⇒ Accepted
     ∷ key j ⇒ rounds 1
-    ∷ Pop ⇒ gives 6 0 0
+    ∷ Pop ⇒ gives 6 none 0
     ∷ Pop ⇒ Nothing
     ∷ [])
 
@@ -527,10 +527,10 @@ a_change_without_a_trail =
     ∷ key a ⇒ rounds 1
     ∷ Change no_tables xs ⇒ Accepted
     ∷ key b ⇒ rounds 1
-    ∷ Pop ⇒ gives 0 0 0
+    ∷ Pop ⇒ gives 0 none 0
     ∷ key a ⇒ rounds 1
     ∷ key b ⇒ rounds 1
-    ∷ Pop ⇒ gives 5 0 0
+    ∷ Pop ⇒ gives 5 none 0
     ∷ Pop ⇒ Nothing
     ∷ [])
 
@@ -544,7 +544,7 @@ the_walk_runs_no_hook = row (
     ∷ in_a_row (53 ∷ j ∷ 52 ∷ q ∷ [])
     ++ (Change digits (Maps 0 (once Any ∷ once (Class 0) ∷ once (Key q) ∷ once (Key b) ∷ []) (does 2) ∷ []) ⇒ Accepted
     ∷ key b ⇒ rounds 1
-    ∷ Pop ⇒ gives 2 54 113
+    ∷ Pop ⇒ gives 2 (some 54) 113
     ∷ Pop ⇒ Nothing
     ∷ []))
 
@@ -557,7 +557,7 @@ no_overflow_on_the_walk = row (
     ∷ in_a_row (54 ∷ 53 ∷ 53 ∷ 51 ∷ 53 ∷ j ∷ 53 ∷ [])
     ++ (Change digits (Maps 0 (three (Key j) (Class 0) (Key b)) (does 2) ∷ []) ⇒ Accepted
     ∷ key b ⇒ rounds 1
-    ∷ Pop ⇒ gives 2 65535 0
+    ∷ Pop ⇒ gives 2 (some 65535) 0
     ∷ Pop ⇒ Nothing
     ∷ []))
 
@@ -569,7 +569,7 @@ a_lost_digit_counts = row (
     ∷ key 52 ⇒ rounds 1
     ∷ Change digits (Maps 0 (one (Key r)) (does 7) ∷ []) ⇒ Accepted
     ∷ key r ⇒ rounds 1
-    ∷ Pop ⇒ gives 7 4 0
+    ∷ Pop ⇒ gives 7 (some 4) 0
     ∷ Pop ⇒ Nothing
     ∷ [])
 
@@ -580,11 +580,11 @@ a_walk_decomposes_no_key = row (
     ∷ key 32866 ⇒ rounds 1
     ∷ Change no_tables (Maps 0 (two (Key 32866) (Key j)) (does 2) ∷ []) ⇒ Accepted
     ∷ key j ⇒ rounds 1
-    ∷ Pop ⇒ gives 2 0 0
+    ∷ Pop ⇒ gives 2 none 0
     ∷ key 32866 ⇒ rounds 1
     ∷ Change no_tables (Maps 0 (three (Key 27) (Key b) (Key j)) (does 3) ∷ []) ⇒ Accepted
     ∷ key j ⇒ rounds 1
-    ∷ Pop ⇒ gives 0 0 0
+    ∷ Pop ⇒ gives 0 none 0
     ∷ Pop ⇒ Nothing
     ∷ [])
 
@@ -600,7 +600,7 @@ the_classes_of_the_new_tables = row (
     ∷ key a ⇒ rounds 1
     ∷ Change (a_in_class 2) (Maps 0 (two (Class 1) (Key j)) (does 3) ∷ Maps 0 (two (Class 2) (Key j)) (does 2) ∷ []) ⇒ Accepted
     ∷ key j ⇒ rounds 1
-    ∷ Pop ⇒ gives 2 0 0
+    ∷ Pop ⇒ gives 2 none 0
     ∷ Pop ⇒ Nothing
     ∷ [])
 
@@ -610,11 +610,11 @@ the_lists_of_the_new_tables = row (
     Open lists ⇒ Accepted
     ∷ key q ⇒ rounds 1
     ∷ Change (record { classes = []; modes = record { enter = 8 ∷ []; unmapped = 9 ∷ []; next = none } ∷ []; rules = [] }) [] ⇒ Accepted
-    ∷ Pop ⇒ gives 10 0 0
+    ∷ Pop ⇒ gives 10 none 0
     ∷ Pop ⇒ Nothing
     ∷ key q ⇒ rounds 1
-    ∷ Pop ⇒ gives 9 0 0
-    ∷ Pop ⇒ gives 8 0 0
+    ∷ Pop ⇒ gives 9 none 0
+    ∷ Pop ⇒ gives 8 none 0
     ∷ Pop ⇒ Nothing
     ∷ [])
 
@@ -629,17 +629,17 @@ the_sequences_pass_over = row (
     ∷ key j ⇒ rounds 1
     ∷ Change no_tables (Maps 0 (one (Key a)) (does 2) ∷ []) ⇒ Accepted
     ∷ key a ⇒ rounds 1
-    ∷ Pop ⇒ gives 1 0 0
-    ∷ Pop ⇒ gives 2 0 0
+    ∷ Pop ⇒ gives 1 none 0
+    ∷ Pop ⇒ gives 2 none 0
     ∷ Repeats 0 none ⇒ Accepted
-    ∷ Pop ⇒ gives 1 0 0
+    ∷ Pop ⇒ gives 1 none 0
     ∷ Pop ⇒ Nothing
     ∷ Change tracking (Maps 0 (one (Key a)) (does 3) ∷ []) ⇒ Accepted
     ∷ key a ⇒ rounds 1
     ∷ Repeats 0 none ⇒ Accepted
-    ∷ Pop ⇒ gives 1 0 0
-    ∷ Pop ⇒ gives 3 0 0
-    ∷ Pop ⇒ gives 3 0 0
+    ∷ Pop ⇒ gives 1 none 0
+    ∷ Pop ⇒ gives 3 none 0
+    ∷ Pop ⇒ gives 3 none 0
     ∷ Pop ⇒ Nothing
     ∷ [])
 
@@ -676,11 +676,63 @@ a_refused_change = row (
     ∷ Change digits (Maps 0 (two (Key j) (Key j)) (does 3) ∷ mode_16 ∷ four) ⇒ Refused 1
     ∷ key j ⇒ rounds 1
     ∷ key q ⇒ rounds 1
-    ∷ Pop ⇒ gives 10 0 0
-    ∷ Pop ⇒ gives 1 0 0
-    ∷ Pop ⇒ gives 10 0 0
+    ∷ Pop ⇒ gives 10 none 0
+    ∷ Pop ⇒ gives 1 none 0
+    ∷ Pop ⇒ gives 10 none 0
     ∷ Pop ⇒ Nothing
     ∷ [])
+
+-- ---- a count that was typed (document 02, request (vii))
+
+-- A typed 0 counts. Both actions of the step that takes it carry it, and at the next r neither does
+abbrev pub zero_pieces_found : Row
+zero_pieces_found = row (
+    Open digits ⇒ Accepted
+    ∷ Prefix 0 (one (Class 0)) none ⇒ Accepted
+    ∷ Map 0 (one (Key r)) (record { flag = false; actions = 7 ∷ 8 ∷ []; next = none; fallthrough = none; mark = none }) ⇒ Accepted
+    ∷ in_a_row (48 ∷ r ∷ r ∷ [])
+    ++ (Pop ⇒ gives 7 (some 0) 0
+    ∷ Pop ⇒ gives 8 (some 0) 0
+    ∷ Pop ⇒ gives 7 none 0
+    ∷ Pop ⇒ gives 8 none 0
+    ∷ Pop ⇒ Nothing
+    ∷ []))
+
+-- A typed 0 passes over to a map that enters mode 0 with action 5. A reset takes it, so 5 carries it, and the unmapped q finds none
+abbrev pub a_typed_0_until_a_reset : Row
+a_typed_0_until_a_reset = row (
+    Open digits ⇒ Accepted
+    ∷ Prefix 0 (one (Class 0)) none ⇒ Accepted
+    ∷ key 48 ⇒ rounds 1
+    ∷ Change (record { classes = []; modes = record { enter = 5 ∷ []; unmapped = []; next = none } ∷ []; rules = [] }) [] ⇒ Accepted
+    ∷ Reset ⇒ Accepted
+    ∷ key q ⇒ rounds 1
+    ∷ Pop ⇒ gives 5 (some 0) 0
+    ∷ Pop ⇒ gives 0 none 0
+    ∷ Pop ⇒ gives 5 none 0
+    ∷ Pop ⇒ Nothing
+    ∷ [])
+
+-- A pair with 42 and one with no count are remembered. A default context overrides nothing, and of an untyped 9 with mark 2 the mark
+-- alone is used. A typed 0 overrides both, and is stored
+abbrev pub a_count_overrides_if_it_was_typed : Row
+a_count_overrides_if_it_was_typed = row (
+    Open (record { classes = digits.classes; modes = []; rules = tracking.rules }) ⇒ Accepted
+    ∷ Prefix 0 (one (Class 0)) none ⇒ Accepted
+    ∷ in_a_row (52 ∷ 50 ∷ q ∷ q ∷ [])
+    ++ (Repeats 0 (some no_context) ⇒ Accepted
+    ∷ Pop ⇒ gives 0 (some 42) 0
+    ∷ Pop ⇒ gives 0 none 0
+    ∷ Repeats 0 (some (record { count = 9; typed = false; mark = 2 })) ⇒ Accepted
+    ∷ Pop ⇒ gives 0 (some 42) 2
+    ∷ Pop ⇒ gives 0 none 2
+    ∷ Repeats 0 (some (record { count = 0; typed = true; mark = 0 })) ⇒ Accepted
+    ∷ Pop ⇒ gives 0 (some 0) 2
+    ∷ Pop ⇒ gives 0 (some 0) 2
+    ∷ Repeats 0 none ⇒ Accepted
+    ∷ Pop ⇒ gives 0 (some 0) 2
+    ∷ Pop ⇒ gives 0 (some 0) 2
+    ∷ []))
 
 unfoldable pub examples : List Row
 examples =
@@ -730,6 +782,9 @@ examples =
     ∷ the_sequences_pass_over
     ∷ the_roots_of_the_new_map
     ∷ a_refused_change
+    ∷ zero_pieces_found
+    ∷ a_typed_0_until_a_reset
+    ∷ a_count_overrides_if_it_was_typed
     ∷ []
 
 pub examples_hold : map outcome examples ≡ examples
@@ -776,7 +831,8 @@ files =
     ∷ []
 
 -- Keys on the empty map. One pair takes 3 bytes, so of 5 bytes lent the second pair is 10, met before the third key, which
--- decomposes and is 8 with a budget of 1. A number that ends early is met before the first key is tried
+-- decomposes and is 8 with a budget of 1. A number that ends early is met before the first key is tried. A typed 0 is written as 1,
+-- 127 takes two bytes and 65,535 three; and a number stands for the count that is written so
 abbrev pub empty_map : List ℕ
 empty_map = 0 ∷ 0 ∷ 0 ∷ 0 ∷ []
 
@@ -785,7 +841,7 @@ lent = 1 ∷ 2 ∷ 3 ∷ 4 ∷ 5 ∷ []
 
 pub files_hold : (map (λ x. refusal_of (number x.bytes)) numbers ≡ map (λ x. x.met) numbers)
     × (map (λ x. refusal_of (read_map x.bytes)) files ≡ map (λ x. x.met) files)
-    × (run empty_map (97 ∷ []) 1 5 ≡ accept (pair 0 0 0 ∷ []))
+    × (run empty_map (97 ∷ []) 1 5 ≡ accept (pair 0 0 false 0 ∷ []))
     × (run empty_map (97 ∷ []) 0 5 ≡ refuse 8)
     × (run empty_map (97 ∷ 97 ∷ 0x80 ∷ []) 0 5 ≡ refuse 9)
     × (run empty_map (97 ∷ 97 ∷ 0xE1 ∷ 0x80 ∷ 0x02 ∷ []) 1 5 ≡ refuse 10)
@@ -796,8 +852,11 @@ pub files_hold : (map (λ x. refusal_of (number x.bytes)) numbers ≡ map (λ x.
     × (output_of pair_bytes lent (run empty_map (97 ∷ 97 ∷ []) 1 5) ≡ 0 ∷ 0 ∷ 0 ∷ 0 ∷ 0 ∷ [])
     × (keyplay (4 ∷ empty_map) ≡ 0x61 ∷ 0x63 ∷ 0x74 ∷ 0x69 ∷ 0x6F ∷ 0x6E ∷ 0x20 ∷ 0x63 ∷ 0x6F ∷ 0x75 ∷ 0x6E ∷ 0x74 ∷ 0x20 ∷ 0x6D ∷ 0x61 ∷ 0x72 ∷ 0x6B ∷ 0x0A ∷ [])
     × (keyplay (5 ∷ empty_map) ≡ 0x72 ∷ 0x65 ∷ 0x66 ∷ 0x75 ∷ 0x73 ∷ 0x65 ∷ 0x64 ∷ 0x20 ∷ 0x39 ∷ 0x0A ∷ [])
+    × (pair_bytes (pair 7 0 true 0 ∷ pair 8 127 true 0 ∷ pair 9 65535 true 0 ∷ []) ≡ 7 ∷ 1 ∷ 0 ∷ 8 ∷ 0x80 ∷ 0x01 ∷ 0 ∷ 9 ∷ 0x80 ∷ 0x80 ∷ 0x04 ∷ 0 ∷ [])
+    × (map (λ n. count_number (numbered n 5)) (0 ∷ 1 ∷ most_count ∷ []) ≡ 0 ∷ 1 ∷ 65536 ∷ [])
+    × (numbered 0 5 ≡ record { count = 0; typed = false; mark = 5 })
 unfolding open-Basics open-Values open-Tables open-Graph open-KeyLoop open-Calls open-Numbers open-MapFile open-Run
-files_hold = (refl, refl, refl, refl, refl, refl, refl, refl, refl, refl, refl, refl, refl)
+files_hold = (refl, refl, refl, refl, refl, refl, refl, refl, refl, refl, refl, refl, refl, refl, refl, refl)
 
 -- ---- one pass
 

@@ -1,6 +1,6 @@
--- Document 02, request (v): the node hint is 1,024 less the nodes made by accepted calls since fresh. Why it is so: a node is made
--- in one place, behind those that are there and while they are fewer than 16 + 1,024; nothing but an open and a change of map, which
--- begin with a fresh graph, takes one away; and a refused call leaves the machine as it was.
+-- Document 02, request (v): the hint and the nodes that accepted calls made since fresh are 1,024 together. Why it is so: a node is
+-- made in one place, behind those that are there and while they are fewer than 16 + 1,024; nothing but an open and a change of map,
+-- which begin with a fresh graph, takes one away; and a refused call leaves the machine as it was.
 use Rattle.std.specs.Prelude.{if◌then◌else◌}
 use Prim.Native.Nat.{ℕ, ◌+◌, ◌-◌, ◌≤◌}
 use native.Mathlib.Omega.{arith}
@@ -25,7 +25,7 @@ use Rattle.rules.proofs.Refusals.{open_always, bind_always, bind_all_always, cha
 use Rattle.rules.proofs.Reached.{any_number, begins_anew, by_call}
 use Rattle.rules.proofs.Facts.{refused_leaves_all}
 
--- The nodes made by accepted calls since fresh, where there were n before a call that is answered so: a refused call makes none; an
+-- How many nodes accepted calls made since fresh, where it was n before a call that is answered so: a refused call makes none; an
 -- accepted open or change begins anew (`begins_anew`), with a fresh graph; and the call makes those that the graph has more then
 abbrev pub made_after : (n : ℕ) → (anew : Bool) → Answer → (before after : Graph) → ℕ
 made_after n anew x g g₁ = if is_refusal x then n else (if anew then length g₁.nodes - length fresh_graph.nodes else n + (length g₁.nodes - length g.nodes))

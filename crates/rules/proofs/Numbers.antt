@@ -1,6 +1,6 @@
 -- Numbers as bytes. A number below 128 × 128 × 128 has at most three groups in the shortest form, since the last of four is
 -- not 0 and so stands for 128 × 128 × 128 at least. So `number` goes by its first three bytes; reading what was written
--- gives the number back, and whatever is read is what writing gives.
+-- gives the number back, and whatever is read is what writing gives. A bound may be tested behind a wider one.
 use Rattle.std.specs.Prelude.{if◌then◌else◌}
 use Prim.Native.Nat.{ℕ, zero, suc, ◌+◌, ◌-◌, ◌*◌, ◌/◌, ◌%◌, ◌≤◌, ◌<◌}
 use native.Mathlib.Omega.{arith}
@@ -224,3 +224,22 @@ module _ (most : ℕ) (small : most < 2097152) (large : 127 ≤ most) (n : ℕ) 
   pub written_read : (bs : List ℕ) → Bytes bs → Gives bs
   written_read [] h e = never 9 _ (sym (number_none most) ∙ e)
   written_read (b ∷ bs) h e = first b bs h.0 h.1 (side b 128) e
+
+-- ---- a bound that is tested behind a wider one
+
+-- what was read, held to the limit
+abbrev pub held : ℕ → Result (ℕ × List ℕ) → Result (ℕ × List ℕ)
+held most x = x >>= λ r. unless (leb r.0 most) 9 (accept r)
+
+pub narrowed : (most wide : ℕ) (bs : List ℕ) → most ≤ wide → number_up_to most bs ≡ held most (number_up_to wide bs)
+unfolding number_up_to
+narrowed most wide bs h = go (groups bs)
+  where
+    test : (s : Bool) (r : ℕ × List ℕ) → (wide < r.0) ⊎ (r.0 ≤ wide) → unless (s && leb r.0 most) 9 (accept r) ≡ held most (unless (s && leb r.0 wide) 9 (accept r))
+    test false r k = refl
+    test true r (inl k) = rw (lt-leb r.0 wide k, lt-leb r.0 most (omega (arith, h, k))) refl
+    test true r (inr k) = rw (le-leb r.0 wide k) refl
+
+    go : (x : Grouped) → judged most x ≡ held most (judged wide x)
+    go (refuse n) = refl
+    go (accept r) = test (shortest r.0) (value_of r.0, r.1) (side wide (value_of r.0))

@@ -1,5 +1,5 @@
--- Document 02, request (iii): going through a node's edges one time is following. Why it is so: what is remembered after each edge
--- follows from that edge and what was remembered before it (*one_more*), and there is nothing to take before the first. The key
+-- Document 02, request (iii): going through a node's edges one time is following. Why it is so: an edge and what
+-- was remembered until then say what is remembered next (*one_more*), and there is nothing to take before the first. The key
 -- graph's code has this as the invariant of its loop.
 use Rattle.std.specs.Prelude.{if◌then◌else◌}
 use Prim.Native.Nat.{ℕ, suc}

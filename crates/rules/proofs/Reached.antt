@@ -35,7 +35,7 @@ module _ (𝓚 : Kind) where
   settled_stays : (s : Machine 𝓚) {r : Result (Machine 𝓚)} → Always any_number (Stays s) r → Stays s (settled 𝓚 s r).0
   settled_stays s h = settled_keeps (Stays s) s (record { tables = refl; bindings = refl; kept = refl }, refl) h
 
-  pressed_keeps : (X : Machine 𝓚 → Type 0) (s : Machine 𝓚) (n : ℕ) → X s → {Y : State 𝓚.Place → Type 0} {r : Result (State 𝓚.Place)}
+  pub pressed_keeps : (X : Machine 𝓚 → Type 0) (s : Machine 𝓚) (n : ℕ) → X s → {Y : State 𝓚.Place → Type 0} {r : Result (State 𝓚.Place)}
       → ((m : State 𝓚.Place) → Y m → X (with_state 𝓚 s m)) → Always any_number Y r → X (pressed 𝓚 s n r).0
   unfolding pressed
   pressed_keeps X s n h k (accepts {a = m} y) = k m y
@@ -164,7 +164,7 @@ module _ (𝓚 : Kind) where
   FewKept s = length s.kept ≤ most_kept
 
   -- a map or prefix call leaves the state, and keeps at most so many
-  bind_few : (x : Binding) (s : Machine 𝓚) → Always any_number (λ s₁. (s₁.state ≡ s.state) × FewKept s₁) (bind 𝓚 x s)
+  pub bind_few : (x : Binding) (s : Machine 𝓚) → Always any_number (λ s₁. (s₁.state ≡ s.state) × FewKept s₁) (bind 𝓚 x s)
   unfolding bind map_call prefix_call
   bind_few (Maps mode path st) s = always_bind (always_is _) (λ b _. always_more (λ s₁ h. h.1) (keep_always 𝓚 tt (Maps mode path st) s b))
   bind_few (Prefixes mode path os) s = always_bind (always_is _) (λ b _. always_more (λ s₁ h. h.1) (keep_always 𝓚 tt (Prefixes mode path os) s b))

@@ -21,7 +21,7 @@ use Rattle.rules.specs.Run.{most_output, numbers_in, read_keys, pair_bytes, empt
 use Rattle.rules.proofs.Results.{Always, accepts, refuses, Whatever, always_bind, always_more, unless_so, always_unless, always_if}
 use Rattle.rules.proofs.Grown.{Grows, any_grows, map_grows, prefix_grows}
 use Rattle.rules.proofs.Weights.{each_any}
-use Rattle.rules.proofs.Rounds.{splits, weight, halves, goto_keeps, loop_bounded}
+use Rattle.rules.proofs.Rounds.{splits, weight, halves, goto_has, loop_bounded}
 
 -- ---- calls of a machine
 
@@ -69,7 +69,7 @@ module _ (𝓚 : Kind) {N : ℕ → Bool} where
   unfolding reset_call reset_mode
   reset_always six five s =
       let c = s.state.shared in
-      always_bind (goto_keeps (navigate 𝓚 s) six five (λ t tr. (t ≡ c.tables) × (tr ≡ c.trail)) default_mode (with_sequences (map (λ x. tracker x.pairs true) c.sequences) c) (refl, refl))
+      always_bind (goto_has (navigate 𝓚 s) six five (λ t tr. (t ≡ c.tables) × (tr ≡ c.trail)) default_mode (with_sequences (map (λ x. tracker x.pairs true) c.sequences) c) (refl, refl))
       (λ m h. accepts (record { tables = h.0; bindings = refl; kept = refl }, h.1))
 
 module _ {N : ℕ → Bool} (one : T (N 1)) (two : T (N 2)) (three : T (N 3)) (four : T (N 4)) (eleven : T (N 11))

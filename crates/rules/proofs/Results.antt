@@ -1,6 +1,7 @@
 -- What is always so of a result: if it is accepted, of the value, and if it is refused, of the number. So of a push, which is
 -- refused with 6 or 5 alone, and of the event hook, which is refused with 12 alone: accepted, both leave the tables, the entered
--- mode and the trail as they were.
+-- mode and the trail as they were. A push remembers no pair but its own, so what holds of it and of all remembered ones holds of
+-- these behind it.
 use Rattle.std.specs.Prelude.{if◌then◌else◌}
 use Prim.Native.Nat.{ℕ}
 use mathlib.Core.Bool.{Bool, true, false}
@@ -9,9 +10,10 @@ use mathlib.Core.List.{List, [], ◌∷◌}
 use lib.Dec.{T, ltb}
 use lib.ListN.{length, get_or}
 use Rattle.rules.specs.Basics.{Result, accept, refuse, ◌>>=◌, unless}
-use Rattle.rules.specs.Values.{most_queued, most_tracked, Event, Key, Class, Any, Fallthrough, Context, counted, hook, Pair}
+use Rattle.rules.specs.Values.{most_queued, most_tracked, Event, Key, Class, Any, Fallthrough, Step, Context, counted, hook, Pair}
 use Rattle.rules.specs.Tables.{Status, Atom, Break, Ignore, Restart, Track, status_of, Rule, matches, Tables}
-use Rattle.rules.specs.KeyLoop.{Tracker, no_tracker, track, Shared, apply_rule, apply_rules, push, push_all, give_all, run_hook}
+use Rattle.rules.specs.KeyLoop.{Tracker, no_tracker, track, Shared, apply_rule, apply_rules, push, push_all, give_all, run_hook, InputResult, Again, ClearTrail, Consumed, NeedMore, Unmapped, RunStep, RetryAfter}
+use Rattle.rules.proofs.Weights.{Each, each_append, each_any, each_at, each_set}
 
 pub data Always {A : Type 0} (N : ℕ → Bool) (X : A → Type 0) : Result A → Type 0 where
   accepts : {a : A} → X a → Always N X (accept a)
@@ -50,24 +52,38 @@ always_if b h k = if_so b (λ _. h) k
 
 -- ---- pushes
 
-module _ {N : ℕ → Bool} (six : T (N 6)) where
-  track_always : (s : Status) (p : Pair) (t : Tracker) → Always N Whatever (track s p t)
+-- G holds of each pair that a sequence remembers
+abbrev pub Remembers : (Pair → Type 0) → Tracker → Type 0
+Remembers G t = Each G t.pairs
+
+module _ {N : ℕ → Bool} (six : T (N 6)) (G : Pair → Type 0) (p : Pair) (g : G p) where
+  track_always : (s : Status) (t : Tracker) → Remembers G t → Always N (Remembers G) (track s p t)
   unfolding track
-  track_always Atom p t = accepts tt
-  track_always Break p t = accepts tt
-  track_always Ignore p t = accepts tt
-  track_always Restart p t = accepts tt
-  track_always Track p t = always_if t.broken (accepts tt) (always_unless (ltb (length t.pairs) most_tracked) 6 six (accepts tt))
+  track_always Atom t h = accepts (g, tt)
+  track_always Break t h = accepts h
+  track_always Ignore t h = accepts h
+  track_always Restart t h = accepts (g, tt)
+  track_always Track t h =
+      always_if t.broken (accepts (g, tt)) (always_unless (ltb (length t.pairs) most_tracked) 6 six (accepts (each_append G t.pairs (p ∷ []) h (g, tt))))
 
-  rule_always : (mode : ℕ) (p : Pair) (r : Rule) (ts : List Tracker) → Always N Whatever (apply_rule mode p r ts)
-  unfolding apply_rule
-  rule_always mode p r ts =
-      always_if (matches r mode p.action) (always_bind (track_always (status_of r.status) p (get_or ts r.sequence no_tracker)) (λ t _. accepts tt)) (accepts tt)
+  rule_always : (mode : ℕ) (r : Rule) (ts : List Tracker) → Each (Remembers G) ts → Always N (Each (Remembers G)) (apply_rule mode p r ts)
+  unfolding apply_rule no_tracker
+  rule_always mode r ts h =
+      always_if (matches r mode p.action)
+      (always_bind (track_always (status_of r.status) (get_or ts r.sequence no_tracker) (each_at (Remembers G) ts r.sequence tt h)) (λ t k. accepts (each_set (Remembers G) ts r.sequence k h)))
+      (accepts h)
 
-  rules_always : (rs : List Rule) (mode : ℕ) (p : Pair) (ts : List Tracker) → Always N Whatever (apply_rules rs mode p ts)
+  pub rules_always : (rs : List Rule) (mode : ℕ) (ts : List Tracker) → Each (Remembers G) ts → Always N (Each (Remembers G)) (apply_rules rs mode p ts)
   unfolding apply_rules
-  rules_always [] mode p ts = accepts tt
-  rules_always (r ∷ rs) mode p ts = always_bind (rule_always mode p r ts) (λ ts₁ _. rules_always rs mode p ts₁)
+  rules_always [] mode ts h = accepts h
+  rules_always (r ∷ rs) mode ts h = always_bind (rule_always mode r ts h) (λ ts₁ k. rules_always rs mode ts₁ k)
+
+-- what each push of a context keeps, all keep
+module _ {N : ℕ → Bool} (Y : Shared → Type 0) (x : Context) (pushes : (a : ℕ) (c : Shared) → Y c → Always N Y (push (record { action = a; context = x }) c)) where
+  pub push_all_keeps : (acts : List ℕ) (c : Shared) → Y c → Always N Y (push_all acts x c)
+  unfolding push_all
+  push_all_keeps [] c h = accepts h
+  push_all_keeps (a ∷ rest) c h = always_bind (pushes a c h) (λ c₁ k. push_all_keeps rest c₁ k)
 
 -- of what a push and the event hook leave as it was
 abbrev pub Kept : (Tables → ℕ → List ℕ → Type 0) → Shared → Type 0
@@ -77,16 +93,12 @@ module _ {N : ℕ → Bool} (six : T (N 6)) (five : T (N 5)) (X : Tables → ℕ
   push_keeps : (p : Pair) (c : Shared) → Kept X c → Always N (Kept X) (push p c)
   unfolding push
   push_keeps p c h =
-      always_bind (rules_always six c.tables.rules c.mode p c.sequences) (λ ts _. always_unless (ltb (length c.queue) most_queued) 5 five (accepts h))
-
-  push_all_keeps : (acts : List ℕ) (x : Context) (c : Shared) → Kept X c → Always N (Kept X) (push_all acts x c)
-  unfolding push_all
-  push_all_keeps [] x c h = accepts h
-  push_all_keeps (a ∷ rest) x c h = always_bind (push_keeps (record { action = a; context = x }) c h) (λ c₁ h₁. push_all_keeps rest x c₁ h₁)
+      always_bind (rules_always six Whatever p tt c.tables.rules c.mode c.sequences (each_any (λ t. each_any (λ q. tt) t.pairs) c.sequences))
+      (λ ts _. always_unless (ltb (length c.queue) most_queued) 5 five (accepts h))
 
   pub give_all_keeps : (acts : List ℕ) (c : Shared) → Kept X c → Always N (Kept X) (give_all acts c)
   unfolding give_all
-  give_all_keeps acts c h = push_all_keeps acts c.context _ h
+  give_all_keeps acts c h = push_all_keeps (Kept X) c.context (λ a. push_keeps (record { action = a; context = c.context })) acts _ h
 
 -- ---- the event hook
 
@@ -102,3 +114,24 @@ module _ {N : ℕ → Bool} (twelve : T (N 12)) where
   unfolding run_hook
   hook_keeps X none k c h = accepts h
   hook_keeps X (some e) k c h = always_bind (hook_always e k c.context) (λ x _. accepts h)
+
+-- ---- a round's step
+
+-- S holds of the step that a round comes to, if any
+abbrev pub Runs : (Step → Type 0) → InputResult → Type 0
+Runs S Again = Unit {0}
+Runs S ClearTrail = Unit {0}
+Runs S Consumed = Unit {0}
+Runs S NeedMore = Unit {0}
+Runs S Unmapped = Unit {0}
+Runs S (RunStep s) = S s
+Runs S (RetryAfter s) = S s
+
+pub each_runs : {S : Step → Type 0} → ((s : Step) → S s) → (x : InputResult) → Runs S x
+each_runs h Again = tt
+each_runs h ClearTrail = tt
+each_runs h Consumed = tt
+each_runs h NeedMore = tt
+each_runs h Unmapped = tt
+each_runs h (RunStep s) = h s
+each_runs h (RetryAfter s) = h s

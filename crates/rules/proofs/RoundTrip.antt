@@ -1,5 +1,5 @@
--- Document 02, request (i): reading the written file gives an equal machine as far as tables and bindings go, and writing what was
--- read gives the same bytes. Why: the reader accepts exactly the bytes that the writer writes (FileFormats), and a machine's
+-- Document 02, request (i): a written file, when it is read, gives a machine with equal tables and bindings, and what was read is
+-- written as the same bytes. Why: the reader accepts exactly the bytes that the writer writes (FileFormats), and a machine's
 -- bindings are what its kept calls make of a fresh machine with its tables (Kept).
 use Prim.Native.Nat.{ℕ, ◌*◌, ◌≤◌, ◌<◌}
 use mathlib.Core.Path.{◌≡◌, sym, ap, ap₂, ◌∙◌, subst}

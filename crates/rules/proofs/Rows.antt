@@ -89,7 +89,7 @@ tables_at_their_limits = row (
     ∷ Open (rules (rule 15 5 5 7 5 ∷ [])) ⇒ Refused 1
     ∷ [])
 
--- a step with n actions, a next mode, a fallthrough mode and a mark
+-- a step with n actions, a mark, a next and a fallthrough mode
 abbrev pub full : ℕ → ℕ → ℕ → ℕ → Step
 full n next fall mark = record { flag = false; actions = replicate n 1; next = some next; fallthrough = some fall; mark = some mark }
 
@@ -130,7 +130,7 @@ its_own n = Map 0 (one (Key n)) (does n) ⇒ Accepted
 
 -- a key whose pair is popped
 abbrev pub played : ℕ → List Tried → List Tried
-played n ts = key n ⇒ rounds 1 ∷ Pop ⇒ gives n 0 0 ∷ ts
+played n ts = key n ⇒ rounds 1 ∷ Pop ⇒ gives n none 0 ∷ ts
 
 -- Ignore and Break remember nothing, and a Track stands behind what was tracked; after a Break, an Atom or a reset a Track starts
 -- anew, after a Restart it goes on
@@ -145,27 +145,27 @@ every_status = row (
     ∷ its_own 9
     ∷ played 5 (played 3 (played 9 (played 2 (
     Repeats 0 none ⇒ Accepted
-    ∷ Pop ⇒ gives 5 0 0
-    ∷ Pop ⇒ gives 9 0 0
+    ∷ Pop ⇒ gives 5 none 0
+    ∷ Pop ⇒ gives 9 none 0
     ∷ Pop ⇒ Nothing
     ∷ played 9 (played 5 (
     Repeats 0 none ⇒ Accepted
-    ∷ Pop ⇒ gives 9 0 0
-    ∷ Pop ⇒ gives 5 0 0
+    ∷ Pop ⇒ gives 9 none 0
+    ∷ Pop ⇒ gives 5 none 0
     ∷ Pop ⇒ Nothing
     ∷ played 4 (played 5 (
     Repeats 0 none ⇒ Accepted
-    ∷ Pop ⇒ gives 4 0 0
-    ∷ Pop ⇒ gives 5 0 0
+    ∷ Pop ⇒ gives 4 none 0
+    ∷ Pop ⇒ gives 5 none 0
     ∷ Pop ⇒ Nothing
     ∷ played 1 (played 9 (
     Repeats 0 none ⇒ Accepted
-    ∷ Pop ⇒ gives 9 0 0
+    ∷ Pop ⇒ gives 9 none 0
     ∷ Pop ⇒ Nothing
     ∷ Reset ⇒ Accepted
     ∷ played 5 (
     Repeats 0 none ⇒ Accepted
-    ∷ Pop ⇒ gives 5 0 0
+    ∷ Pop ⇒ gives 5 none 0
     ∷ Pop ⇒ Nothing
     ∷ []))))))))))))
 
@@ -174,20 +174,20 @@ abbrev pub rules_in_order : Row
 rules_in_order = row (
     Open (rules (rule 0 0 0 0 3 ∷ rule 0 0 0 0 4 ∷ rule 0 0 0 1 4 ∷ rule 0 0 0 1 3 ∷ [])) ⇒ Accepted
     ∷ key q ⇒ rounds 1
-    ∷ Pop ⇒ gives 0 0 0
+    ∷ Pop ⇒ gives 0 none 0
     ∷ Repeats 0 none ⇒ Accepted
-    ∷ Pop ⇒ gives 0 0 0
-    ∷ Pop ⇒ gives 0 0 0
+    ∷ Pop ⇒ gives 0 none 0
+    ∷ Pop ⇒ gives 0 none 0
     ∷ Pop ⇒ Nothing
     ∷ Repeats 1 none ⇒ Accepted
-    ∷ Pop ⇒ gives 0 0 0
+    ∷ Pop ⇒ gives 0 none 0
     ∷ Pop ⇒ Nothing
     ∷ [])
 
 -- ---- the event hook, keys that decompose, the trail
 
--- Of class 0 the keys 48 and 57 count, 47 and 58 do not, and of class 1, which holds 50 first, none. Any keeps the count and
--- counting keeps the mark; a step's mark replaces the mark alone
+-- Of class 0 the keys 48 and 57 count, 47 and 58 do not, and of class 1, which holds 50 first, none: they do not type either. Any
+-- keeps the count, typed or not, and counting keeps the mark; a step's mark replaces the mark alone
 abbrev pub count_and_mark : Row
 count_and_mark = row (
     Open (classes (class 1 50 50 ∷ class 0 40 60 ∷ [])) ⇒ Accepted
@@ -196,13 +196,17 @@ count_and_mark = row (
     ∷ Prefix 0 (one Any) none ⇒ Accepted
     ∷ Map 0 (one (Key r)) (does 7) ⇒ Accepted
     ∷ Map 0 (one (Key b)) (record { flag = false; actions = 3 ∷ []; next = none; fallthrough = none; mark = some 9 }) ⇒ Accepted
+    ∷ in_a_row (47 ∷ 58 ∷ 50 ∷ z ∷ r ∷ [])
+    ++ (Pop ⇒ gives 7 none 122
+    ∷ in_a_row (48 ∷ z ∷ r ∷ [])
+    ++ (Pop ⇒ gives 7 (some 0) 122
     ∷ in_a_row (57 ∷ z ∷ 48 ∷ 47 ∷ 58 ∷ 50 ∷ r ∷ [])
-    ++ (Pop ⇒ gives 7 90 122
+    ++ (Pop ⇒ gives 7 (some 90) 122
     ∷ key 52 ⇒ rounds 1
     ∷ key b ⇒ rounds 1
-    ∷ Pop ⇒ gives 3 4 9
+    ∷ Pop ⇒ gives 3 (some 4) 9
     ∷ Pop ⇒ Nothing
-    ∷ []))
+    ∷ []))))
 
 -- 32,768 is 27 and 0, and 32,767 is a key
 abbrev pub the_least_key_that_decomposes : Row
@@ -210,10 +214,10 @@ the_least_key_that_decomposes = row (
     Map 0 (one (Key 27)) (does 1) ⇒ Accepted
     ∷ Map 0 (one (Key 0)) (does 2) ⇒ Accepted
     ∷ key 32768 ⇒ rounds 3
-    ∷ Pop ⇒ gives 1 0 0
-    ∷ Pop ⇒ gives 2 0 0
+    ∷ Pop ⇒ gives 1 none 0
+    ∷ Pop ⇒ gives 2 none 0
     ∷ key 32767 ⇒ rounds 1
-    ∷ Pop ⇒ gives 0 0 0
+    ∷ Pop ⇒ gives 0 none 0
     ∷ Pop ⇒ Nothing
     ∷ [])
 
@@ -225,9 +229,9 @@ the_trail_in_order = row (
     ∷ key a ⇒ rounds 1
     ∷ key b ⇒ rounds 1
     ∷ key q ⇒ rounds 3
-    ∷ Pop ⇒ gives 0 0 0
-    ∷ Pop ⇒ gives 2 0 0
-    ∷ Pop ⇒ gives 0 0 0
+    ∷ Pop ⇒ gives 0 none 0
+    ∷ Pop ⇒ gives 2 none 0
+    ∷ Pop ⇒ gives 0 none 0
     ∷ Pop ⇒ Nothing
     ∷ [])
 
@@ -239,24 +243,24 @@ abbrev pub at_most_twice : Row
 at_most_twice = row (
     Map 0 (part (Max 2) (Key a) ∷ once (Key b) ∷ []) (does 1) ⇒ Accepted
     ∷ key b ⇒ rounds 2
-    ∷ Pop ⇒ gives 1 0 0
+    ∷ Pop ⇒ gives 1 none 0
     ∷ key a ⇒ rounds 1
     ∷ key b ⇒ rounds 2
-    ∷ Pop ⇒ gives 1 0 0
+    ∷ Pop ⇒ gives 1 none 0
     ∷ key a ⇒ rounds 1
     ∷ key a ⇒ rounds 1
     ∷ key b ⇒ rounds 1
-    ∷ Pop ⇒ gives 1 0 0
+    ∷ Pop ⇒ gives 1 none 0
     ∷ Pop ⇒ Nothing
     ∷ key a ⇒ rounds 1
     ∷ key q ⇒ rounds 4
-    ∷ Pop ⇒ gives 0 0 0
-    ∷ Pop ⇒ gives 0 0 0
+    ∷ Pop ⇒ gives 0 none 0
+    ∷ Pop ⇒ gives 0 none 0
     ∷ Pop ⇒ Nothing
     ∷ key a ⇒ rounds 1
     ∷ key a ⇒ rounds 1
     ∷ key a ⇒ rounds 3
-    ∷ Pop ⇒ gives 0 0 0
+    ∷ Pop ⇒ gives 0 none 0
     ∷ Pop ⇒ Nothing
     ∷ [])
 
@@ -267,7 +271,7 @@ at_most_twice_at_the_end = row (
     ∷ key a ⇒ rounds 1
     ∷ Pop ⇒ Nothing
     ∷ key a ⇒ rounds 1
-    ∷ Pop ⇒ gives 1 0 0
+    ∷ Pop ⇒ gives 1 none 0
     ∷ key a ⇒ rounds 1
     ∷ key_within 3 q ⇒ PressRefused 8 3
     ∷ [])
@@ -280,9 +284,9 @@ reset_after_two_of_a =
     ∷ key a ⇒ rounds 1
     ∷ Reset ⇒ Accepted
     ∷ key q ⇒ rounds 4
-    ∷ Pop ⇒ gives 0 0 0
-    ∷ Pop ⇒ gives 0 0 0
-    ∷ Pop ⇒ gives 0 0 0
+    ∷ Pop ⇒ gives 0 none 0
+    ∷ Pop ⇒ gives 0 none 0
+    ∷ Pop ⇒ gives 0 none 0
     ∷ Pop ⇒ Nothing
     ∷ []
 
@@ -292,16 +296,16 @@ abbrev pub at_least_twice : Row
 at_least_twice = row (
     Map 0 (part (Min 2) (Key a) ∷ once (Key b) ∷ []) (does 1) ⇒ Accepted
     ∷ in_a_row (a ∷ a ∷ a ∷ b ∷ [])
-    ++ (Pop ⇒ gives 1 0 0
+    ++ (Pop ⇒ gives 1 none 0
     ∷ key a ⇒ rounds 1
     ∷ key a ⇒ rounds 1
     ∷ key q ⇒ rounds 2
-    ∷ Pop ⇒ gives 1 0 0
-    ∷ Pop ⇒ gives 0 0 0
+    ∷ Pop ⇒ gives 1 none 0
+    ∷ Pop ⇒ gives 0 none 0
     ∷ key a ⇒ rounds 1
     ∷ key b ⇒ rounds 2
-    ∷ Pop ⇒ gives 0 0 0
-    ∷ Pop ⇒ gives 0 0 0
+    ∷ Pop ⇒ gives 0 none 0
+    ∷ Pop ⇒ gives 0 none 0
     ∷ reset_after_two_of_a))
 
 -- Any number of a, then b: the root falls to the node of the repeats, and that to the step, so a q runs it again and again
@@ -309,7 +313,7 @@ abbrev pub none_or_more : Row
 none_or_more = row (
     Map 0 (part (Min 0) (Key a) ∷ once (Key b) ∷ []) (does 1) ⇒ Accepted
     ∷ key b ⇒ rounds 2
-    ∷ Pop ⇒ gives 1 0 0
+    ∷ Pop ⇒ gives 1 none 0
     ∷ key_within 4 q ⇒ PressRefused 8 4
     ∷ [])
 
@@ -319,14 +323,14 @@ at_least_twice_at_the_end = row (
     Map 0 (part (Min 2) (Key a) ∷ []) (does 1) ⇒ Accepted
     ∷ key a ⇒ rounds 1
     ∷ key q ⇒ rounds 2
-    ∷ Pop ⇒ gives 0 0 0
-    ∷ Pop ⇒ gives 0 0 0
+    ∷ Pop ⇒ gives 0 none 0
+    ∷ Pop ⇒ gives 0 none 0
     ∷ key a ⇒ rounds 1
     ∷ key a ⇒ rounds 1
     ∷ key a ⇒ rounds 1
     ∷ key q ⇒ rounds 2
-    ∷ Pop ⇒ gives 1 0 0
-    ∷ Pop ⇒ gives 0 0 0
+    ∷ Pop ⇒ gives 1 none 0
+    ∷ Pop ⇒ gives 0 none 0
     ∷ reset_after_two_of_a)
 
 -- ---- prefixes
@@ -346,11 +350,11 @@ prefixes_with_a_step = row (
     ∷ key b ⇒ rounds 1
     ∷ Pop ⇒ Nothing
     ∷ key r ⇒ rounds 2
-    ∷ Pop ⇒ gives 7 0 9
+    ∷ Pop ⇒ gives 7 none 9
     ∷ key a ⇒ rounds 1
     ∷ key a ⇒ rounds 1
     ∷ key r ⇒ rounds 3
-    ∷ Pop ⇒ gives 7 0 9
+    ∷ Pop ⇒ gives 7 none 9
     ∷ Pop ⇒ Nothing
     ∷ [])
 
@@ -360,22 +364,22 @@ abbrev pub none_alone : Row
 none_alone = row (
     Prefix 0 (part (Max 0) (Key b) ∷ []) none ⇒ Accepted
     ∷ key b ⇒ rounds 1
-    ∷ Pop ⇒ gives 0 0 0
+    ∷ Pop ⇒ gives 0 none 0
     ∷ Prefix 0 (part (Min 0) (Key a) ∷ []) none ⇒ Accepted
     ∷ key q ⇒ rounds 1
-    ∷ Pop ⇒ gives 0 0 0
+    ∷ Pop ⇒ gives 0 none 0
     ∷ key a ⇒ rounds 1
     ∷ key q ⇒ rounds 3
-    ∷ Pop ⇒ gives 0 0 0
+    ∷ Pop ⇒ gives 0 none 0
     ∷ key a ⇒ rounds 1
     ∷ key a ⇒ rounds 1
     ∷ key q ⇒ rounds 3
-    ∷ Pop ⇒ gives 0 0 0
+    ∷ Pop ⇒ gives 0 none 0
     ∷ key a ⇒ rounds 1
     ∷ Reset ⇒ Accepted
     ∷ key q ⇒ rounds 2
-    ∷ Pop ⇒ gives 0 0 0
-    ∷ Pop ⇒ gives 0 0 0
+    ∷ Pop ⇒ gives 0 none 0
+    ∷ Pop ⇒ gives 0 none 0
     ∷ Pop ⇒ Nothing
     ∷ [])
 
@@ -386,15 +390,15 @@ none_behind_another = row (
     ∷ Prefix 0 (once (Key j) ∷ part (Min 0) (Key b) ∷ []) none ⇒ Accepted
     ∷ key a ⇒ rounds 1
     ∷ key q ⇒ rounds 3
-    ∷ Pop ⇒ gives 0 0 0
+    ∷ Pop ⇒ gives 0 none 0
     ∷ Pop ⇒ Nothing
     ∷ key j ⇒ rounds 1
     ∷ key q ⇒ rounds 3
-    ∷ Pop ⇒ gives 0 0 0
+    ∷ Pop ⇒ gives 0 none 0
     ∷ key j ⇒ rounds 1
     ∷ key b ⇒ rounds 1
     ∷ key q ⇒ rounds 3
-    ∷ Pop ⇒ gives 0 0 0
+    ∷ Pop ⇒ gives 0 none 0
     ∷ Pop ⇒ Nothing
     ∷ [])
 
@@ -403,7 +407,7 @@ abbrev pub a_prefix_that_goes_round : Row
 a_prefix_that_goes_round = row (
     Prefix 0 (part (Max 1) (Key a) ∷ []) (some (does 1)) ⇒ Accepted
     ∷ key a ⇒ rounds 1
-    ∷ Pop ⇒ gives 1 0 0
+    ∷ Pop ⇒ gives 1 none 0
     ∷ key_within 3 q ⇒ PressRefused 8 3
     ∷ [])
 
@@ -413,12 +417,12 @@ the_end_of_a_prefix_is_empty = row (
     Map 0 (one (Key z)) (record { flag = false; actions = []; next = some 1; fallthrough = none; mark = none }) ⇒ Accepted
     ∷ Prefix 1 (part (Max 1) (Key a) ∷ []) none ⇒ Accepted
     ∷ key z ⇒ rounds 1
-    ∷ Pop ⇒ gives 0 0 0
+    ∷ Pop ⇒ gives 0 none 0
     ∷ key a ⇒ rounds 1
     ∷ Reset ⇒ Accepted
     ∷ key q ⇒ rounds 2
-    ∷ Pop ⇒ gives 0 0 0
-    ∷ Pop ⇒ gives 0 0 0
+    ∷ Pop ⇒ gives 0 none 0
+    ∷ Pop ⇒ gives 0 none 0
     ∷ Pop ⇒ Nothing
     ∷ [])
 
@@ -434,13 +438,13 @@ a_change_of_64_keys = row (
     ∷ key a ⇒ PressRefused 7 1
     ∷ Change no_tables (Maps 0 (part (Max 65) (Key a) ∷ []) (does 3) ∷ []) ⇒ Accepted
     ∷ key a ⇒ rounds 1
-    ∷ Pop ⇒ gives 3 0 0
+    ∷ Pop ⇒ gives 3 none 0
     ∷ replicate 64 (key a ⇒ rounds 1)
     ++ (Change no_tables (Maps 0 (part (Max 64) (Key a) ∷ []) (does 4) ∷ []) ⇒ Accepted
     ∷ replicate 63 (key a ⇒ rounds 1)
     ++ (Pop ⇒ Nothing
     ∷ key a ⇒ rounds 1
-    ∷ Pop ⇒ gives 4 0 0
+    ∷ Pop ⇒ gives 4 none 0
     ∷ Pop ⇒ Nothing
     ∷ []))))
 
@@ -485,7 +489,7 @@ node x = record { mode = 3; action = x }
 -- A sequence is unbroken at first. The 2,048th edge and the 1,024th node beside the 16 roots are the last. Only a step has an action
 pub graphs_hold : (no_tracker ≡ tracker [] false)
     × (default_step ≡ record { flag = false; actions = []; next = none; fallthrough = none; mark = none })
-    × (default_pair ≡ pair 0 0 0)
+    × (default_pair ≡ pair 0 0 false 0)
     × (map (λ n. refusal_of (put_edge (record { from = 0; event = Key a; to = 0 }) (with_edges n) none)) (2047 ∷ 2048 ∷ []) ≡ 0 ∷ 3 ∷ [])
     × (map (λ n. refusal_of (add_node 0 Empty (with_nodes n))) (1039 ∷ 1040 ∷ []) ≡ 0 ∷ 2 ∷ [])
     × (map (holds_action 3 7) (node Empty ∷ node Root ∷ node (Holds (does 6)) ∷ node (Holds (does 7)) ∷ []) ≡ false ∷ false ∷ false ∷ true ∷ [])
@@ -597,7 +601,7 @@ pub hints_hold :
     (map (λ n. hint (with_nodes n)) (0 ∷ 15 ∷ 16 ∷ 17 ∷ 1039 ∷ 1040 ∷ 1041 ∷ []) ≡ 1024 ∷ 1024 ∷ 1024 ∷ 1023 ∷ 1 ∷ 0 ∷ 0 ∷ [])
     × (map (λ x. x.1) (hints (fresh graph_kind no_tables) shown) ≡ 1023 ∷ 1022 ∷ 1021 ∷ 1020 ∷ 1020 ∷ 1020 ∷ 1019 ∷ 1018 ∷ 1018 ∷ [])
     × (hints (leaves graph_kind (fresh graph_kind no_tables) shown) behind_shown
-    ≡ (Refused 1, 1018) ∷ (Refused 1, 1018) ∷ (Refused 1, 1018) ∷ (Pressed 1, 1018) ∷ (Popped (pair 0 0 0), 1018) ∷ (Accepted, 1024) ∷ [])
+    ≡ (Refused 1, 1018) ∷ (Refused 1, 1018) ∷ (Refused 1, 1018) ∷ (Pressed 1, 1018) ∷ (Popped (pair 0 0 false 0), 1018) ∷ (Accepted, 1024) ∷ [])
     × (hints (leaves graph_kind (fresh graph_kind no_tables) shown) (refused_change ∷ two_nodes ∷ Map 0 (one (Key j)) (does 1) ∷ Change no_tables [] ∷ [])
     ≡ (Refused 1, 1018) ∷ (Accepted, 1022) ∷ (Accepted, 1021) ∷ (Accepted, 1024) ∷ [])
     × (hints (keeping 1024 (with_nodes 1040)) (two_nodes ∷ []) ≡ (Accepted, 1022) ∷ [])
@@ -668,11 +672,12 @@ its_calls =
 abbrev pub the_largest : List ℕ
 the_largest = 0x36 ∷ 0x35 ∷ 0x35 ∷ 0x33 ∷ 0x35 ∷ []
 
--- The machine that a file gives is the one that its calls leave, and its file is this one; lines have all five digits, or one
+-- The machine that a file gives is the one that its calls leave, and its file is this one; lines have all five digits, or one,
+-- as a typed 0 has
 pub files_and_text_hold : (map (λ x. refusal_of (read_map x.bytes)) files_at_their_limits ≡ map (λ x. x.met) files_at_their_limits)
     × (read_map a_map ≡ accept (leaves graph_kind (fresh graph_kind no_tables) its_calls))
     × (file_of graph_kind (leaves graph_kind (fresh graph_kind no_tables) its_calls) ≡ a_map)
-    × (lines_of (pair 65535 65535 65535 ∷ pair 9 10 0 ∷ []) ≡ the_largest ++ 0x20 ∷ the_largest ++ 0x20 ∷ the_largest ++ 0x0A ∷ 0x39 ∷ 0x20 ∷ 0x31 ∷ 0x30 ∷ 0x20 ∷ 0x30 ∷ 0x0A ∷ [])
+    × (lines_of (pair 65535 65535 true 65535 ∷ pair 9 10 true 0 ∷ pair 8 0 true 0 ∷ []) ≡ the_largest ++ 0x20 ∷ the_largest ++ 0x20 ∷ the_largest ++ 0x0A ∷ 0x39 ∷ 0x20 ∷ 0x31 ∷ 0x30 ∷ 0x20 ∷ 0x30 ∷ 0x0A ∷ 0x38 ∷ 0x20 ∷ 0x30 ∷ 0x20 ∷ 0x30 ∷ 0x0A ∷ [])
 unfolding open-Basics open-Values open-Tables open-Graph open-KeyLoop open-Calls open-Numbers open-MapFile open-Run open-Writing
 files_and_text_hold = (refl, refl, refl, refl)
 

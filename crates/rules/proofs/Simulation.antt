@@ -15,7 +15,7 @@ use Rattle.rules.specs.Tables.{ClassEntry, class_valid, ModeEntry, no_entry, mod
 use Rattle.rules.specs.KeyLoop.{Shared, with_mode, with_trail, give_all}
 use Rattle.rules.specs.KeyLoop.{InputResult, Again, ClearTrail, Consumed, NeedMore, Unmapped, RunStep, RetryAfter, Turn, Navigator, State, KeyResult, run_hook, needs_more, set_mark, or_default, at, proceed, goto_mode, unmapped, step_to, step, after, round, loop, walk, walked, resume}
 use Rattle.rules.proofs.Tests.{T_and}
-use Rattle.rules.proofs.Results.{Always, accepts, refuses, give_all_keeps, hook_keeps}
+use Rattle.rules.proofs.Results.{Always, accepts, refuses, give_all_keeps, hook_keeps, Runs}
 
 -- ---- what holds of two results
 
@@ -78,14 +78,9 @@ next_fits t h m =
     let b = (T_and (leb (length t.classes) most_classes && every class_valid t.classes) _ a).1 in
     entry_fits t.modes (T_and (leb (length t.modes) mode_count) (every mode_valid t.modes) b).1 m
 
+-- the step that is run, if any, has a mode for its next mode
 abbrev pub ResultFits : InputResult → Type 0
-ResultFits Again = Unit {0}
-ResultFits ClearTrail = Unit {0}
-ResultFits Consumed = Unit {0}
-ResultFits NeedMore = Unit {0}
-ResultFits Unmapped = Unit {0}
-ResultFits (RunStep s) = T (present is_mode s.next)
-ResultFits (RetryAfter s) = T (present is_mode s.next)
+ResultFits = Runs (λ s. T (present is_mode s.next))
 
 mark_fits : (o : Option ℕ) (c : Shared) → Fits c → Fits (set_mark o c)
 unfolding set_mark

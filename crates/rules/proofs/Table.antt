@@ -2,7 +2,7 @@
 -- A row is a list of calls on the fresh graph machine with no tables, each beside the answer that it must get.
 use Prim.Native.Nat.{ℕ}
 use mathlib.Core.Path.{◌≡◌, refl}
-use mathlib.Core.Bool.{false}
+use mathlib.Core.Bool.{true, false}
 use mathlib.Core.Option.{Option, none, some}
 use mathlib.Core.List.{List, [], ◌∷◌, ◌++◌, map}
 use lib.ListN.{replicate}
@@ -58,8 +58,10 @@ key x = key_within 1000 x
 abbrev pub rounds : ℕ → Answer
 rounds n = Pressed n
 
-abbrev pub gives : ℕ → ℕ → ℕ → Answer
-gives x count mark = Popped (pair x count mark)
+-- a pair without a count, and one with a count that was typed
+abbrev pub gives : ℕ → Option ℕ → ℕ → Answer
+gives x none mark = Popped (pair x 0 false mark)
+gives x (some count) mark = Popped (pair x count true mark)
 
 -- keys one after another, of which each takes a round
 abbrev pub in_a_row : List ℕ → List Tried
@@ -116,10 +118,10 @@ E1 = row (
     ∷ key 50 ⇒ rounds 1
     ∷ Pop ⇒ Nothing
     ∷ key r ⇒ rounds 1
-    ∷ Pop ⇒ gives 7 42 0
+    ∷ Pop ⇒ gives 7 (some 42) 0
     ∷ Pop ⇒ Nothing
     ∷ key z ⇒ rounds 1
-    ∷ Pop ⇒ gives 0 0 0
+    ∷ Pop ⇒ gives 0 none 0
     ∷ Pop ⇒ Nothing
     ∷ [])
 
@@ -134,10 +136,10 @@ E2 = row (
     ++ (key j ⇒ rounds 1
     ∷ Pop ⇒ Nothing
     ∷ key k ⇒ rounds 2
-    ∷ Pop ⇒ gives 0 0 0
+    ∷ Pop ⇒ gives 0 none 0
     ∷ Pop ⇒ Nothing
     ∷ key k ⇒ rounds 1
-    ∷ Pop ⇒ gives 2 0 0
+    ∷ Pop ⇒ gives 2 none 0
     ∷ Pop ⇒ Nothing
     ∷ []))
 
@@ -154,18 +156,18 @@ E4 = row (
     ∷ Pop ⇒ Nothing
     ∷ [])
 
--- E5: mappings 27 and 98, key 32,866: both steps, 3 rounds
+-- E5: 27 and 98 are mapped, and key 32,866 runs the steps of both, in 3 rounds
 abbrev pub E5 : Row
 E5 = row (
     Map 0 (one (Key 27)) (does 1) ⇒ Accepted
     ∷ Map 0 (one (Key b)) (does 2) ⇒ Accepted
     ∷ key 32866 ⇒ rounds 3
-    ∷ Pop ⇒ gives 1 0 0
-    ∷ Pop ⇒ gives 2 0 0
+    ∷ Pop ⇒ gives 1 none 0
+    ∷ Pop ⇒ gives 2 none 0
     ∷ Pop ⇒ Nothing
     ∷ [])
 
--- E6: mapping a, then prefix a without step: key a gives no pair
+-- E6: a is mapped, then made a prefix without step: no pair comes of key a
 abbrev pub E6 : Row
 E6 = row (
     Map 0 (one (Key a)) (does 1) ⇒ Accepted
@@ -174,19 +176,19 @@ E6 = row (
     ∷ Pop ⇒ Nothing
     ∷ [])
 
--- E7: the same two in the other order: the root itself holds the step
+-- E7: the prefix first and the mapping second: it is the root that has the step
 abbrev pub E7 : Row
 E7 = record {
   tries =
       Prefix 0 (one (Key a)) none ⇒ Accepted
       ∷ Map 0 (one (Key a)) (does 1) ⇒ Accepted
       ∷ key a ⇒ rounds 1
-      ∷ Pop ⇒ gives 1 0 0
+      ∷ Pop ⇒ gives 1 none 0
       ∷ [];
   root = some (does 1);
 }
 
--- E8: a's step falls to mode 1, then mapping (a, Fallthrough) in mode 0: 4
+-- E8: a's step falls to mode 1; to map (a, Fallthrough) in mode 0 is 4 then
 abbrev pub E8 : Row
 E8 = row (
     Map 0 (one (Key a)) (record { flag = false; actions = 1 ∷ []; next = none; fallthrough = some 1; mark = none }) ⇒ Accepted
@@ -232,12 +234,12 @@ e1_input =
     0x00 ∷ 0x00 ∷ 0x01 ∷ 0x00 ∷ 0x00 ∷ 0x72 ∷ 0x00 ∷ 0x01 ∷ 0x07 ∷ 0x00 ∷ 0x00 ∷ 0x00 ∷
     0x34 ∷ 0x32 ∷ 0x72 ∷ 0x7A ∷ []
 
--- "action count mark", "7 42 0", "0 0 0"
+-- "action count mark", "7 42 0", "0 - 0"
 abbrev pub e1_text : List ℕ
 e1_text =
     0x61 ∷ 0x63 ∷ 0x74 ∷ 0x69 ∷ 0x6F ∷ 0x6E ∷ 0x20 ∷ 0x63 ∷ 0x6F ∷ 0x75 ∷ 0x6E ∷ 0x74 ∷ 0x20 ∷ 0x6D ∷ 0x61 ∷ 0x72 ∷ 0x6B ∷ 0x0A ∷
     0x37 ∷ 0x20 ∷ 0x34 ∷ 0x32 ∷ 0x20 ∷ 0x30 ∷ 0x0A ∷
-    0x30 ∷ 0x20 ∷ 0x30 ∷ 0x20 ∷ 0x30 ∷ 0x0A ∷ []
+    0x30 ∷ 0x20 ∷ 0x2D ∷ 0x20 ∷ 0x30 ∷ 0x0A ∷ []
 
 -- The theorem: the rules give every row its answers, and E1's bytes their lines
 pub table_holds : (map outcome table ≡ table) × (keyplay e1_input ≡ e1_text)

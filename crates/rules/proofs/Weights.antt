@@ -1,10 +1,10 @@
 -- What the keys of a list weigh together, where each weighs 1 and something more, whatever that is; and what holds of each of a
 -- list.
-use Prim.Native.Nat.{ℕ, ◌+◌, ◌*◌, ◌≤◌}
+use Prim.Native.Nat.{ℕ, zero, suc, ◌+◌, ◌*◌, ◌≤◌}
 use native.Mathlib.Omega.{arith}
 use mathlib.Core.Path.{◌≡◌, refl}
-use mathlib.Core.List.{List, [], ◌∷◌, ◌++◌}
-use lib.ListN.{length, drop}
+use mathlib.Core.List.{List, [], ◌∷◌, ◌++◌, map}
+use lib.ListN.{length, drop, get_or, set}
 
 -- ---- of each of a list
 
@@ -12,7 +12,7 @@ abbrev pub Each : {A : Type 0} → (A → Type 0) → List A → Type 0
 Each K [] = Unit {0}
 Each K (k ∷ ks) = K k × Each K ks
 
-pub each_append : (K : ℕ → Type 0) (xs ys : List ℕ) → Each K xs → Each K ys → Each K (xs ++ ys)
+pub each_append : {A : Type 0} (K : A → Type 0) (xs ys : List A) → Each K xs → Each K ys → Each K (xs ++ ys)
 each_append K [] ys h k = k
 each_append K (x ∷ xs) ys h k = (h.0, each_append K xs ys h.1 k)
 
@@ -27,6 +27,20 @@ each_any h (x ∷ xs) = (h x, each_any h xs)
 pub each_map : {K L : ℕ → Type 0} → ((k : ℕ) → K k → L k) → (xs : List ℕ) → Each K xs → Each L xs
 each_map f [] h = tt
 each_map f (x ∷ xs) h = (f x h.0, each_map f xs h.1)
+
+pub each_image : {A B : Type 0} (K : A → Type 0) (L : B → Type 0) (f : A → B) → ((x : A) → K x → L (f x)) → (xs : List A) → Each K xs → Each L (map f xs)
+each_image K L f k [] h = tt
+each_image K L f k (x ∷ xs) h = (k x h.0, each_image K L f k xs h.1)
+
+pub each_at : {A : Type 0} (K : A → Type 0) (xs : List A) (i : ℕ) {d : A} → K d → Each K xs → K (get_or xs i d)
+each_at K [] i k h = k
+each_at K (x ∷ xs) zero k h = h.0
+each_at K (x ∷ xs) (suc i) k h = each_at K xs i k h.1
+
+pub each_set : {A : Type 0} (K : A → Type 0) (xs : List A) (i : ℕ) {x : A} → K x → Each K xs → Each K (set xs i x)
+each_set K [] i k h = h
+each_set K (y ∷ xs) zero k h = (k, h.1)
+each_set K (y ∷ xs) (suc i) k h = (h.0, each_set K xs i k h.1)
 
 -- ---- weights
 

@@ -20,7 +20,7 @@ pub data Call : Type 0 where
   Reset : Call
   Change : Tables → List Binding → Call
 
--- Acceptance or the refusal's number; for a pop the pair or "nothing"; for a key, refused or not, also the rounds made
+-- What a call answers: that it is accepted, or which refusal; a pop its pair or "nothing"; a key its rounds too, even where refused
 pub data Answer : Type 0 where
   Accepted : Answer
   Refused : ℕ → Answer
@@ -59,7 +59,7 @@ module _ (𝓚 : Kind) where
   unfoldable pub fresh : Tables → Machine
   fresh t = record { bindings = 𝓚.none_yet; kept = []; state = at ((𝓚.navigator 𝓚.none_yet).root default_mode) (fresh_shared t) }
 
-  -- open with tables: 1 a value or count outside its range
+  -- open with tables: 1 where a value or a count is out of range
   unfoldable pub open_with : Tables → Result Machine
   open_with t = unless (tables_valid t) 1 (accept (fresh t))
 
@@ -210,14 +210,14 @@ unfoldable pub first_node : (Node → Bool) → ℕ → List Node → Option ℕ
 first_node p n [] = none
 first_node p n (x ∷ xs) = if p x then some n else first_node p (suc n) xs
 
--- find: 1 mode over 15; else the lowest-numbered node of that mode whose step has the action, or "none" if there is none
+-- find: 1 mode over 15; else the lowest-numbered of that mode's nodes with the action in their step, or "none" where no node has it
 unfoldable pub find : Graph → ℕ → ℕ → Result (Option ℕ)
 find g mode a = unless (is_mode mode) 1 (accept (first_node (holds_action mode a) 0 g.nodes))
 
 -- ---- the node hint (document 02, request (v))
 
--- the nodes made by accepted calls since fresh: all but the roots, since a refused call leaves the graph, and only an open and a
--- change, which begin with a fresh one, take any away
+-- how many nodes accepted calls made since fresh: all but the roots, since a refused call leaves the graph, and only an open and
+-- a change, which begin with a fresh one, take any away
 unfoldable pub nodes_made : Graph → ℕ
 nodes_made g = length g.nodes - mode_count
 

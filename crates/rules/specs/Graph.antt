@@ -32,7 +32,7 @@ unfoldable pub roots : ℕ → ℕ → List Node
 roots zero m = []
 roots (suc n) m = record { mode = m; action = Root } ∷ roots n (suc m)
 
--- nodes 0–15 are the mode roots and always exist
+-- the mode roots, nodes 0–15, are there from the start
 unfoldable pub fresh_graph : Graph
 fresh_graph = record { nodes = roots mode_count 0; edges = [] }
 
@@ -67,7 +67,7 @@ unfoldable pub replace_in : List Edge → Edge → List Edge
 replace_in [] new = []
 replace_in (e ∷ es) new = if is_edge new.from new.event e then new ∷ es else e ∷ replace_in es new
 
--- an edge with the same start and event is replaced; else at most 2,048 edges: 3 no edge left
+-- an edge of that start and event is replaced; else at most 2,048 edges: 3 no edge left
 unfoldable pub put_edge : Edge → Graph → Option ℕ → Result Graph
 put_edge new g (some old) = accept (record { nodes = g.nodes; edges = replace_in g.edges new })
 put_edge new g none =

@@ -7,7 +7,7 @@ use Rattle.std.proofs.Math.Option.{Option, none, some}
 use Rattle.rules.specs.Basics.{Result, accept, refuse, ◌>>=◌, unless}
 use Rattle.rules.specs.Values.{sequence_count, most_queued, most_tracked, most_trail, decomposes, first_key, rest_of, is_sequence, default_mode, default_action}
 use Rattle.rules.specs.Values.{Event, Step, Context, no_context, hook, take, merge, Pair}
-use Rattle.rules.specs.Tables.{ClassEntry, mode_entry, Status, Atom, Break, Ignore, Restart, Track, status_of, Rule, matches, Tables, no_tables}
+use Rattle.rules.specs.Tables.{ClassEntry, mode_entry, Status, Atom, Break, Ignore, Restart, Track, status_of, Rule, matches, Tables}
 
 -- ---- remembered sequences
 
@@ -22,7 +22,7 @@ tracker ps b = record { pairs = ps; broken = b }
 unfoldable pub no_tracker : Tracker
 no_tracker = tracker [] false
 
--- `SequenceTracker::push`: 6 a Track would append to 64 pairs
+-- `SequenceTracker::push`: 6 where a Track finds 64 pairs
 unfoldable pub track : Status → Pair → Tracker → Result Tracker
 track Atom p t = accept (tracker (p ∷ []) true)
 track Break p t = accept (tracker t.pairs true)
@@ -37,7 +37,7 @@ unfoldable pub override : Option Context → Pair → Pair
 override none p = p
 override (some over) p = record { action = p.action; context = merge p.context over }
 
--- `SequenceTracker::fetch`: each remembered pair is merged and stored again
+-- `SequenceTracker::fetch`: the remembered pairs are merged one by one, and stored so
 unfoldable pub fetch : Option Context → Tracker → Tracker
 fetch over t = tracker (map (override over) t.pairs) t.broken
 
@@ -88,7 +88,7 @@ apply_rules (r ∷ rs) mode p ts = do
   ts₁ ← apply_rule mode p r ts
   apply_rules rs mode p ts₁
 
--- the sequence rules of the entered mode, then the queue: 5 a push meets 256
+-- first the entered mode's sequence rules, then the queue: 5 where 256 pairs wait
 unfoldable pub push : Pair → Shared → Result Shared
 push p c = do
   ts ← apply_rules c.tables.rules c.mode p c.sequences
@@ -155,7 +155,7 @@ run_hook (some e) k c = do x ← hook e k c.context; accept (with_context x c)
 
 unfoldable pub set_mark : Option ℕ → Shared → Shared
 set_mark none c = c
-set_mark (some x) c = with_context (record { count = c.context.count; mark = x }) c
+set_mark (some x) c = with_context (record { count = c.context.count; typed = c.context.typed; mark = x }) c
 
 -- action 0, if the list is empty
 unfoldable pub or_default : List ℕ → List ℕ
@@ -181,7 +181,7 @@ module _ {P : Type 0} (nav : Navigator P) where
     c₁ ← give_all (mode_entry c.tables.modes mode).enter (with_mode mode c)
     accept (at (nav.root mode) c₁)
 
-  -- the list of the node's mode, but the entered mode when no next mode is given
+  -- the list is that of the node's mode; where this has no next mode, the entered one is entered again
   unfoldable pub unmapped : State P → Result (State P)
   unmapped m =
       let e = mode_entry m.shared.tables.modes (nav.mode_of m.place) in do
@@ -204,7 +204,7 @@ module _ {P : Type 0} (nav : Navigator P) where
 
   -- ---- `input_key`
 
-  -- what follows a round: the keys still to try, the next one first, and the state. 7 a key is to join a trail of 64
+  -- what follows a round: the keys still to try, the next one first, and the state. 7 one more key for a trail of 64
   unfoldable pub after : InputResult → ℕ → List ℕ → State P → Result (List ℕ × State P)
   after Again k ks m = accept (k ∷ ks, m)
   after ClearTrail k ks m = accept (k ∷ ks, clear_trail m)
@@ -226,7 +226,7 @@ module _ {P : Type 0} (nav : Navigator P) where
         c ← run_hook turn.event k m.shared
         after turn.result k ks (at turn.place c)
 
-  -- `left` rounds may still be made and `made` have been: 8 a further round is due and the budget is used up
+  -- `left` rounds may still be made and `made` have been: 8 one more is due and none is left
   unfoldable pub loop : (left made : ℕ) → List ℕ → State P → KeyResult P
   loop zero made [] m = record { rounds = made; result = accept m }
   loop zero made (k ∷ ks) m = record { rounds = made; result = refuse 8 }
@@ -247,7 +247,7 @@ module _ {P : Type 0} (nav : Navigator P) where
   walk cs [] p = some p
   walk cs (k ∷ ks) p = let turn = nav.turn cs p k in if needs_more turn.result then walk cs ks turn.place else none
 
-  -- that place is taken and the trail kept; otherwise the place is the root and the trail is empty
+  -- the place come to, with the trail as it was; where there is none, the root, with no key on the trail
   unfoldable pub walked : Option P → Shared → State P
   walked (some p) c = at p c
   walked none c = at (nav.root c.mode) (with_trail [] c)

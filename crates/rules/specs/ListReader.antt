@@ -39,7 +39,7 @@ unfoldable pub starts : List Event → List (List Event)
 starts [] = []
 starts (e ∷ p) = (e ∷ []) ∷ map (λ q. e ∷ q) (starts p)
 
--- an opening is a non-empty start of a path, with its mode
+-- a mapping's openings: each start of its path but the empty one, with the mode
 unfoldable pub openings_of : Mapping → List Place
 openings_of x = map (place x.mode) (starts x.path)
 
@@ -92,7 +92,7 @@ fall_at xs a = last_of (λ x. if exactly_at a x then x.step.fallthrough else non
 abbrev pub further : Place → Event → Place
 further a e = place a.mode (a.path ++ (e ∷ []))
 
--- the first event e for which p then e is an opening in m
+-- the first event that leads from the place to an opening
 unfoldable pub first_opening : List Mapping → Place → List Event → Option Event
 first_opening xs a [] = none
 first_opening xs a (e ∷ es) = if is_among (further a e) (openings xs) then some e else first_opening xs a es
@@ -127,7 +127,7 @@ list_navigator xs = record {
 unfoldable pub mapping_of : ℕ → List Part → Step → Mapping
 mapping_of mode ps s = record { mode = mode; path = map (λ p. p.event) ps; step = s }
 
--- an empty path changes nothing; else 2 if the distinct openings of all modes would pass 1,024
+-- an empty path changes nothing; else 2 where all modes together would have more than 1,024 distinct openings
 unfoldable pub map_list : ℕ → List Part → Step → List Mapping → Result (List Mapping)
 map_list mode [] s xs = accept xs
 map_list mode (p ∷ ps) s xs =

@@ -52,7 +52,7 @@ list_of most r = do
   n ← up_to most
   times n r
 
--- an optional mode is 0 or mode + 1
+-- 0 for no mode, else mode + 1
 unfoldable pub optional : ℕ → Option ℕ
 optional zero = none
 optional (suc n) = some n
@@ -105,13 +105,13 @@ read_tables = do
 
 -- ---- bindings
 
--- 0 once, 1 min, 2 max, the latter two with n
+-- 0 once; 1 min and 2 max, each with n
 unfoldable pub repeat_by : ℕ → Reader Repeat
 repeat_by zero = give Once
 repeat_by (suc zero) = do n ← such is_repeat; give (Min n)
 repeat_by (suc (suc k)) = do n ← such is_repeat; give (Max n)
 
--- 0 key, 1 class, 2 any, 3 fallthrough, the first two with a value
+-- 0 key and 1 class, each with a value; 2 any, 3 fallthrough
 unfoldable pub event_by : ℕ → Reader Event
 event_by zero = do n ← number; give (Key n)
 event_by (suc zero) = do n ← such is_class; give (Class n)
@@ -126,7 +126,7 @@ read_part = do
   ev ← event_by e
   give (record { repeat = rep; event = ev })
 
--- flag 0/1, list, next mode, fallthrough, mark
+-- a flag, 0 or 1, then list, next mode, fallthrough and mark
 abbrev pub read_step : Reader Step
 read_step = do
   flag ← up_to 1
@@ -136,13 +136,13 @@ read_step = do
   mark ← number
   give (record { flag = eqb flag 1; actions = actions; next = next; fallthrough = fall; mark = optional_mark mark })
 
--- 0 mapping, 1 prefix, 2 prefix with step
+-- 0 a mapping, 1 a prefix, 2 a prefix with a step
 unfoldable pub binding_by : ℕ → ℕ → List Part → Reader Binding
 binding_by zero mode path = do st ← read_step; give (Maps mode path st)
 binding_by (suc zero) mode path = give (Prefixes mode path none)
 binding_by (suc (suc k)) mode path = do st ← read_step; give (Prefixes mode path (some st))
 
--- kind, mode, part count, parts, then the step for kinds 0 and 2
+-- kind, mode, how many parts, and these; behind them kinds 0 and 2 have a step
 abbrev pub read_binding : Reader Binding
 read_binding = do
   kind ← up_to 2

@@ -3,7 +3,7 @@ use Rattle.std.specs.Prelude.{ℕ, ◌+◌, ◌-◌, ◌*◌, ◌/◌, ◌%◌, 
 use Rattle.rules.specs.Basics.{Result, accept, refuse, ◌>>=◌, unless}
 use Rattle.rules.specs.Values.{largest}
 
--- groups of seven bits, lowest first, 80 set on all but the last; and the bytes after them. 9 the bytes end early
+-- seven bits of each byte, the lowest first, up to the first byte without 80; and the bytes after them. 9 the bytes end early
 unfoldable pub groups : List ℕ → Result (List ℕ × List ℕ)
 groups [] = refuse 9
 groups (b ∷ bs) =

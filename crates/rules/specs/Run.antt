@@ -1,8 +1,8 @@
 -- Document 01, "Map file and run": the run on map, keys and output, and the program `keyplay`.
-use Rattle.std.specs.Prelude.{ℕ, zero, suc, ◌+◌, ◌*◌, ◌/◌, ◌%◌, min, Bool, true, false, List, [], ◌∷◌, ◌++◌, leb, ltb, length, take, drop, replicate, if◌then◌else◌}
+use Rattle.std.specs.Prelude.{ℕ, zero, suc, ◌+◌, ◌-◌, ◌*◌, ◌/◌, ◌%◌, min, List, [], ◌∷◌, ◌++◌, leb, ltb, length, take, drop, replicate, if◌then◌else◌}
 use Rattle.rules.specs.Basics.{Result, accept, refuse, ◌>>=◌, unless}
-use Rattle.rules.specs.Values.{Pair}
-use Rattle.rules.specs.KeyLoop.{State, KeyResult, Input, at, with_queue}
+use Rattle.rules.specs.Values.{largest, Context, Pair}
+use Rattle.rules.specs.KeyLoop.{State, at, with_queue}
 use Rattle.rules.specs.Calls.{Machine, graph_kind, key_call, with_state}
 use Rattle.rules.specs.Numbers.{number, bytes_of}
 use Rattle.rules.specs.MapFile.{read_map}
@@ -35,10 +35,22 @@ numbers_in (suc most) (b ∷ bs) = do
 unfoldable pub read_keys : List ℕ → Result (List ℕ)
 read_keys bs = numbers_in (length bs) bs
 
+-- a count as a number: 0 for none, and count + 1 for one that was typed (document 02, request (vii))
+unfoldable pub count_number : Context → ℕ
+count_number c = if c.typed then c.count + 1 else 0
+
+-- the number of the largest count
+abbrev pub most_count : ℕ
+most_count = largest + 1
+
+-- the context of such a number and a mark
+unfoldable pub numbered : (number mark : ℕ) → Context
+numbered number mark = record { count = number - 1; typed = ltb 0 number; mark = mark }
+
 -- each pair as three numbers
 unfoldable pub pair_bytes : List Pair → List ℕ
 pair_bytes [] = []
-pair_bytes (p ∷ ps) = bytes_of p.action ++ bytes_of p.context.count ++ bytes_of p.context.mark ++ pair_bytes ps
+pair_bytes (p ∷ ps) = bytes_of p.action ++ bytes_of (count_number p.context) ++ bytes_of p.context.mark ++ pair_bytes ps
 
 -- after a key its pairs are popped until none is left
 abbrev pub emptied : Machine graph_kind → State ℕ → Machine graph_kind
@@ -52,7 +64,7 @@ play_keys budget room (k ∷ ks) s out = do
   unless (leb (length (pair_bytes (out ++ m.shared.queue))) room) 10
       (play_keys budget room ks (emptied s m) (out ++ m.shared.queue))
 
--- the map is read whole before the keys, and all keys before the first is tried. `lent` is the output's length
+-- first the whole map is read, then all keys, and only then one is tried. `lent` is the output's length
 unfoldable pub run : (map keys : List ℕ) (budget lent : ℕ) → Result (List Pair)
 run map keys budget lent = do
   s ← read_map map
@@ -88,9 +100,13 @@ unfoldable pub decimal : ℕ → ℕ → List ℕ
 decimal zero n = []
 decimal (suc most) n = (if ltb n 10 then [] else decimal most (n / 10)) ++ ((0x30 + n % 10) ∷ [])
 
+-- a count in decimal, and a dash for none
+unfoldable pub count_text : Context → List ℕ
+count_text c = if c.typed then decimal 5 c.count else 0x2D ∷ []
+
 -- `action count mark` of a pair, and a line's end
 unfoldable pub line_of : Pair → List ℕ
-line_of p = decimal 5 p.action ++ (0x20 ∷ decimal 5 p.context.count) ++ (0x20 ∷ decimal 5 p.context.mark) ++ (0x0A ∷ [])
+line_of p = decimal 5 p.action ++ (0x20 ∷ count_text p.context) ++ (0x20 ∷ decimal 5 p.context.mark) ++ (0x0A ∷ [])
 
 unfoldable pub lines_of : List Pair → List ℕ
 lines_of [] = []
@@ -115,5 +131,5 @@ keyplay input = text_of (unless (leb (length input) most_input) 9 (play_input in
 
 -- ---- everything above, to be opened by one name where a run is computed
 unfoldable pub open-Run : Unit {0}
-unfolding numbers_in read_keys pair_bytes play_keys run code_of output_of play_input decimal line_of lines_of heading refusal text_of keyplay
+unfolding numbers_in read_keys count_number numbered pair_bytes play_keys run code_of output_of play_input decimal count_text line_of lines_of heading refusal text_of keyplay
 open-Run = tt

@@ -14,7 +14,7 @@ pub record ClassEntry : Type 0 where
 unfoldable pub holds_key : ClassEntry → ℕ → Bool
 holds_key c k = leb c.low k && leb k c.high
 
--- a key's memberships: the entries whose range holds it, ends included, in table order
+-- a key's memberships, in table order: the class of each entry that has the key in its range, both ends counted
 unfoldable pub memberships : List ClassEntry → ℕ → List ℕ
 memberships [] k = []
 memberships (c ∷ cs) k = (if holds_key c k then c.class ∷ [] else []) ++ memberships cs k
@@ -45,7 +45,7 @@ mode_valid e =
 pub data Status : Type 0 where
   Atom Break Ignore Restart Track : Status
 
--- 0 Atom, 1 Break, 2 Ignore, 3 Restart, 4 Track. (No table that open takes has a larger number.)
+-- Atom, Break, Ignore, Restart, Track, numbered from 0. (No table that open takes has a larger number.)
 unfoldable pub status_of : ℕ → Status
 status_of s =
     if eqb s 0 then Atom else (if eqb s 1 then Break else (if eqb s 2 then Ignore else (if eqb s 3 then Restart else Track)))

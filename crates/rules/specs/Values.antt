@@ -1,7 +1,7 @@
 -- Document 01, "From the Rust to tables": the values, their limits and ranges, context, step and pair.
 -- Numbers are natural numbers. That a value fits 16 bits is a matter of the code's types and is not tested here; every
--- other range is, by a function named after the value (`is…` for a number, `…Valid` for what is made of several).
-use Rattle.std.specs.Prelude.{ℕ, ◌+◌, ◌-◌, ◌*◌, Bool, true, false, ◌&&◌, List, [], leb, ltb, eqb, length, if◌then◌else◌}
+-- other range is, by a function named after the value (`is_…` for a number, `…_valid` for what is made of several).
+use Rattle.std.specs.Prelude.{ℕ, ◌+◌, ◌-◌, ◌*◌, Bool, true, false, ◌&&◌, ◌||◌, List, [], leb, ltb, eqb, length, if◌then◌else◌}
 use Rattle.std.proofs.Math.Option.{Option, none, some}
 use Rattle.rules.specs.Basics.{Result, accept, unless, every, present}
 
@@ -153,35 +153,38 @@ path_valid ps = leb (length ps) most_parts && every part_valid ps
 
 -- ---- context
 
+-- `typed`: whether the count was typed, as a 0 may be (document 02, request (vii))
 pub record Context : Type 0 where
   pub count : ℕ
+  pub typed : Bool
   pub mark : ℕ
 
--- both 0 at first
+-- both 0 at first, and no count typed
 unfoldable pub no_context : Context
-no_context = record { count = 0; mark = 0 }
+no_context = record { count = 0; typed = false; mark = 0 }
 
--- the count step: 12 the count would pass the largest value (document 02, request (iv))
+-- the count step types: 12 the count would pass the largest value (document 02, request (iv))
 unfoldable pub counted : ℕ → Context → Result Context
 counted digit c =
     let n = c.count * 10 + digit in
-    unless (leb n largest) 12 (accept (record { count = n; mark = c.mark }))
+    unless (leb n largest) 12 (accept (record { count = n; typed = true; mark = c.mark }))
 
 -- the event hook: class 0 with a digit's key counts, and Any sets the mark
 unfoldable pub hook : Event → ℕ → Context → Result Context
 hook (Key a) k c = accept c
 hook (Class a) k c = if eqb a 0 && (leb 48 k && leb k 57) then counted (k - 48) c else accept c
-hook Any k c = accept (record { count = c.count; mark = k })
+hook Any k c = accept (record { count = c.count; typed = c.typed; mark = k })
 hook Fallthrough k c = accept c
 
--- `take`: the context, and the zeros that it leaves
+-- `take`: the context, and the fresh one that it leaves
 abbrev pub take : Context → Context × Context
 take c = (c, no_context)
 
--- each field of `over` that is not 0, else that of c
+-- the count of `over` if it was typed and its mark if it is not 0, else those of c; typed if either was
 unfoldable pub merge : Context → Context → Context
 merge c over = record {
-  count = if eqb over.count 0 then c.count else over.count;
+  count = if over.typed then over.count else c.count;
+  typed = c.typed || over.typed;
   mark = if eqb over.mark 0 then c.mark else over.mark;
 }
 
@@ -222,16 +225,16 @@ binding_valid (Prefixes mode path st) = prefix_valid mode path st
 
 -- ---- pair
 
--- (action, count, mark)
+-- (action, count, mark), the count typed or not
 pub record Pair : Type 0 where
   pub action : ℕ
   pub context : Context
 
-abbrev pub pair : ℕ → ℕ → ℕ → Pair
-pair a count mark = record { action = a; context = record { count = count; mark = mark } }
+abbrev pub pair : (action count : ℕ) → Bool → (mark : ℕ) → Pair
+pair a count typed mark = record { action = a; context = record { count = count; typed = typed; mark = mark } }
 
 unfoldable pub default_pair : Pair
-default_pair = pair default_action 0 0
+default_pair = pair default_action 0 false 0
 
 -- ---- everything above, to be opened by one name where a run is computed
 unfoldable pub open-Values : Unit {0}

@@ -19,7 +19,7 @@ alone n = n ∷ []
 unfoldable pub listed : {A : Type 0} → (A → List ℕ) → List A → List ℕ
 listed w xs = length xs ∷ flat_map w xs
 
--- an optional mode is 0 or mode + 1
+-- 0 for no mode, else mode + 1
 unfoldable pub mode_number : Option ℕ → ℕ
 mode_number none = 0
 mode_number (some m) = suc m
@@ -50,13 +50,13 @@ tables_numbers t = listed class_numbers t.classes ++ (listed mode_numbers t.mode
 
 -- ---- bindings
 
--- 0 once, 1 min, 2 max, the latter two with n
+-- 0 once; 1 min and 2 max, each with n
 unfoldable pub repeat_numbers : Repeat → List ℕ
 repeat_numbers Once = 0 ∷ []
 repeat_numbers (Min n) = 1 ∷ n ∷ []
 repeat_numbers (Max n) = 2 ∷ n ∷ []
 
--- 0 key, 1 class, 2 any, 3 fallthrough, the first two with a value
+-- 0 key and 1 class, each with a value; 2 any, 3 fallthrough
 unfoldable pub event_numbers : Event → List ℕ
 event_numbers (Key k) = 0 ∷ k ∷ []
 event_numbers (Class c) = 1 ∷ c ∷ []
@@ -69,7 +69,7 @@ part_numbers p = repeat_numbers p.repeat ++ event_numbers p.event
 unfoldable pub step_numbers : Step → List ℕ
 step_numbers s = flag_number s.flag ∷ (listed alone s.actions ++ (mode_number s.next ∷ mode_number s.fallthrough ∷ mark_number s.mark ∷ []))
 
--- 0 mapping, 1 prefix, 2 prefix with step
+-- 0 a mapping, 1 a prefix, 2 a prefix with a step
 unfoldable pub binding_numbers : Binding → List ℕ
 binding_numbers (Maps mode path st) = 0 ∷ mode ∷ (listed part_numbers path ++ step_numbers st)
 binding_numbers (Prefixes mode path none) = 1 ∷ mode ∷ listed part_numbers path

@@ -1,7 +1,7 @@
 -- Each return is one case of the rules' reading by the first three bytes (proofs/NumberBy.antt).
 use native.Mathlib.Omega.{arith}
-use Rattle.mapparts.proofs.NumberBy.{none, one, one_short, two_zero, two, two_short, three_zero, three, three_over}
-use Rattle.mapparts.proofs.reader.Reader.number.Goals as goal
+use Rattle.mapparts.proofs.NumberBy.{none, one, one_short, two_zero, two, two_short, three_zero, three, four}
+use Rattle.mapparts.proofs.reader.Reader.groups.Goals as goal
 
 pub returns-in_err-b-clause-reads : goal.returns-in_err-b-clause-reads
 returns-in_err-b-clause-reads c = let h = none _ c.in_err-b.ensures.1 in grind (arith, h)
@@ -24,8 +24,8 @@ returns-in_err-d-clause-reads c = let h = two_short _ _ _ c.in_ok-b.ensures.1 c.
 pub returns-then-d-eq0-clause-reads : goal.returns-then-d-eq0-clause-reads
 returns-then-d-eq0-clause-reads c = three_zero _ _ _ c.in_ok-b.ensures.1 c.if-b-lt128.false c.in_ok-b.ensures.0 _ _ c.in_ok-c.ensures.1 c.if-c-lt128.false c.in_ok-c.ensures.0 _ _ c.in_ok-d.ensures.1 c.if-d-eq0.true
 
-pub returns-then-d-ge4-clause-reads : goal.returns-then-d-ge4-clause-reads
-returns-then-d-ge4-clause-reads c = three_over _ _ _ c.in_ok-b.ensures.1 c.if-b-lt128.false c.in_ok-b.ensures.0 _ _ c.in_ok-c.ensures.1 c.if-c-lt128.false c.in_ok-c.ensures.0 _ _ c.in_ok-d.ensures.1 c.if-d-ge4.true
+pub returns-then-d-ge128-clause-reads : goal.returns-then-d-ge128-clause-reads
+returns-then-d-ge128-clause-reads c = four _ _ _ c.in_ok-b.ensures.1 c.if-b-lt128.false c.in_ok-b.ensures.0 _ _ c.in_ok-c.ensures.1 c.if-c-lt128.false c.in_ok-c.ensures.0 _ _ c.in_ok-d.ensures.1 c.if-d-ge128.true
 
 pub returns-clause-reads : goal.returns-clause-reads
-returns-clause-reads c = three _ _ _ c.in_ok-b.ensures.1 c.if-b-lt128.false c.in_ok-b.ensures.0 _ _ c.in_ok-c.ensures.1 c.if-c-lt128.false c.in_ok-c.ensures.0 _ _ c.in_ok-d.ensures.1 c.if-d-eq0.false c.if-d-ge4.false
+returns-clause-reads c = three _ _ _ c.in_ok-b.ensures.1 c.if-b-lt128.false c.in_ok-b.ensures.0 _ _ c.in_ok-c.ensures.1 c.if-c-lt128.false c.in_ok-c.ensures.0 _ _ c.in_ok-d.ensures.1 c.if-d-eq0.false c.if-d-ge128.false
