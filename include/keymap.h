@@ -61,7 +61,7 @@ extern "C" {
  *     keymap_mode          1 KiB
  *     keymap_find          1 KiB
  *     keymap_free          1 KiB
- *     keymap_write         3 KiB
+ *     keymap_write         1 KiB
  *     keymap_run         222 KiB
  *
  * examples/stack.c also holds a key, a pop and a reset to 32 KiB, the run to 256 KiB and every call to 384 KiB, on any

@@ -6,6 +6,7 @@ ghost use Rattle.std.specs.Prelude.{◌<◌, length, IfSome};
 ghost use Rattle.std.specs.Iterator.{at_most};
 
 use mapparts::reader::Reader;
+pub use playback::read_full;
 use std::io;
 use std::io::Write;
 
@@ -37,17 +38,25 @@ impl<'a> Iterator for Frames<'a> {
     }
 }
 
-// A line `--` stands before each answer.
-pub fn cases<W: Write, F: FnMut(&mut W, &[u8]) -> io::Result<()>>(
-    out: &mut W,
-    s: &[u8],
-    mut play: F,
-) -> io::Result<()>
-    requires { F.IsAlwaysCallable play }
-{
+// The program whose inputs they are.
+#[derive(Clone, Copy, Debug, PartialEq, Eq)]
+pub enum Player {
+    Keyplay,
+    Callplay,
+}
+
+fn answer<W: Write>(out: &mut W, input: &[u8], player: Player) -> io::Result<()> {
+    match player {
+        Player::Keyplay => playback::answer(out, input),
+        Player::Callplay => playcalls::answer(out, input),
+    }
+}
+
+// A line `--` stands before each answer; a frame that is not whole ends the play.
+pub fn cases<W: Write>(out: &mut W, s: &[u8], player: Player) -> io::Result<()> {
     for input in Frames(s) {
         writeln!(out, "--")?;
-        play(out, input)?;
+        answer(out, input, player)?;
     }
     Ok(())
 }

@@ -1,41 +1,61 @@
 -- A call that is in range comes back from its words. Each number is below the next one's place in the word, so that it is
 -- read alone again; what is in range is smaller than its place, so that nothing of it was cut.
 use Prim.Native.Nat.{ℕ, zero, suc, ◌+◌, ◌*◌, ◌/◌, ◌%◌, ◌≤◌, ◌<◌}
-use mathlib.Core.Path.{◌≡◌, refl, ap}
+use mathlib.Core.Path.{◌≡◌, refl, sym, ap, ◌∙◌}
 use mathlib.Core.Bool.{true}
-use mathlib.Core.List.{List, [], ◌∷◌, map}
+use mathlib.Core.List.{List, [], ◌∷◌, ◌++◌, map, map-append}
 use mathlib.Core.Option.{Option}
 use native.Mathlib.Omega.{arith}
 use lib.Dec.{eqb}
-use lib.ListN.{length, take, length-map}
+use lib.ListN.{length, take, set, get_or, length-map, length-set}
+use lib.Seq.{take_all}
 use Rattle.rules.specs.Basics.{every, present}
 use Rattle.rules.specs.Values.{is_mode, is_mark, Part, Step, repeat_valid, part_valid, path_valid, step_valid, map_valid, prefix_valid, binding_valid}
 use Rattle.rules.specs.MapFile.{optional_mark}
 use Rattle.rules.proofs.Tests.{and_l, and_r}
 use Rattle.keyvalues.specs.declared.path.EdgePath.{EdgePath}
+use Rattle.keyvalues.specs.declared.path.EdgePathPart.{EdgePathPart}
 use Rattle.keyvalues.specs.declared.step.Step as st
-use Rattle.keyvalues.specs.View.{part_of, whole_path, whole_step, maybe_of, four_of, opt_of, event_at, call_of}
+use Rattle.keyvalues.specs.View.{part_of, whole_path, whole_step, maybe_of, four_of, opt_of, call_of}
 use Rattle.std.proofs.lemmas.Bool.Decides.{nat_tests}
 use Rattle.keyvalues.proofs.Ranges.{fit_take, fit_length}
 use Rattle.std.specs.Prelude
 use Rattle.std.specs.Prelude.{Some, None}
 use Rattle.std.specs.Option.{unwrap_or}
-use Rattle.std.proofs.lemmas.List.{take-map}
+use Rattle.std.proofs.lemmas.List.{take-map, take_more_set, map_more}
 use Rattle.keptcalls.specs.declared.words.Kind.{Kind}
 use Rattle.keptcalls.specs.declared.words.Kind.TheVariants.{Mapping, Prefix, PrefixWithStep}
 use Rattle.keptcalls.specs.View.{event_by, repeat_by, part_at, cut_repeat, cut_part, parts_in, step_at, call_by, kind_number, call_as}
 
 -- ---- parts
 
--- the code of an event tells it by its two parts
-event_back : (c : ℕ) → c < 131074 → event_by (c / 65536) (c % 65536) ≡ event_at c
-unfolding event_by event_at
-event_back c h = grind (arith, nat_tests)
-
-pub part_word : (e r : ℕ) (p : Part) → e < 131074 → r < 1024 → event_at e ≡ p.event → repeat_by (r % 4) (r / 4) ≡ cut_repeat p.repeat
+pub part_word : (e r : ℕ) (p : Part) → e < 262144 → r < 1024 → event_by (e / 65536) (e % 65536) ≡ p.event → repeat_by (r % 4) (r / 4) ≡ cut_repeat p.repeat
     → part_at (e + 262144 * r) ≡ cut_part p
 unfolding part_at cut_part
-part_word e r p he hr xe xr = let b = event_back e he in grind arith
+part_word e r p he hr xe xr = grind arith
+
+-- one part more has its code
+pub codes_more : (cs : List ℕ) (ps : List EdgePathPart) (i c : ℕ) (d : EdgePathPart) → length cs ≡ 32 → i < 32 → i < length ps
+    → part_at c ≡ cut_part (part_of (get_or ps i d)) → take i (parts_in cs) ≡ map cut_part (map part_of (take i ps))
+    → (length (set cs i c) ≡ 32) × (take (i + 1) (parts_in (set cs i c)) ≡ map cut_part (map part_of (take (i + 1) ps)))
+codes_more cs ps i c d l h k e x =
+    let j : i < length cs = omega arith in
+    let y : map part_at (take i cs) ≡ map cut_part (map part_of (take i ps)) = sym (take-map part_at i cs) ∙ x in (
+      length-set cs i c ∙ l,
+      take-map part_at (i + 1) (set cs i c)
+          ∙ ap (map part_at) (take_more_set cs i c j)
+          ∙ map-append part_at (take i cs) (c ∷ [])
+          ∙ ap (λ xs. xs ++ part_at c ∷ []) y
+          ∙ ap (λ p. map cut_part (map part_of (take i ps)) ++ p ∷ []) e
+          ∙ sym (map-append cut_part (map part_of (take i ps)) (part_of (get_or ps i d) ∷ []))
+          ∙ ap (map cut_part) (sym (map_more part_of ps i d k)),
+    )
+
+pub codes_all : (cs : List ℕ) (ps : List EdgePathPart) (i : ℕ) → i ≤ length ps → length ps ≤ i
+    → take i (parts_in cs) ≡ map cut_part (map part_of (take i ps)) → take (length ps) (parts_in cs) ≡ map cut_part (map part_of ps)
+codes_all cs ps i h k x =
+    let e : i ≡ length ps = omega arith in
+    ap (λ n. take n (parts_in cs)) (sym e) ∙ x ∙ ap (λ qs. map cut_part (map part_of qs)) (take_all i ps k)
 
 -- what is in range is not cut
 cut_part_lem : (p : Part) → part_valid p ≡ true → cut_part p ≡ p
@@ -47,7 +67,8 @@ unfolding every
 cut_parts [] h = refl
 cut_parts (p ∷ ps) h = rw (cut_part_lem p (and_l (part_valid p) (every part_valid ps) h), cut_parts ps (and_r (part_valid p) (every part_valid ps) h))
 
-path_back : (p : EdgePath) (ps : List ℕ) → length p.parts ≡ 32 → parts_in ps ≡ map cut_part (map part_of p.parts) → path_valid (whole_path p) ≡ true
+path_back : (p : EdgePath) (ps : List ℕ) → length p.parts ≡ 32
+    → take (length (take p.count p.parts)) (parts_in ps) ≡ map cut_part (map part_of (take p.count p.parts)) → path_valid (whole_path p) ≡ true
     → take (p.count % 64) (parts_in ps) ≡ whole_path p
 unfolding path_valid
 path_back p ps l e h =
@@ -101,7 +122,7 @@ same_call (PrefixWithStep step) mode path path₁ s xp xs h = grind (arith, nat_
 
 pub call_back : (k : Kind) (mode : ℕ) (path : EdgePath) (step : ℕ) (ps : List ℕ) (w : ℕ) → length path.parts ≡ 32 → kind_number k < 4
     → (binding_valid (call_as k mode (whole_path path)) ≡ true → call_of (kind_number k) mode (whole_path path) (step_at step w) ≡ call_as k mode (whole_path path))
-    → parts_in ps ≡ map cut_part (map part_of path.parts)
+    → take (length (take path.count path.parts)) (parts_in ps) ≡ map cut_part (map part_of (take path.count path.parts))
     → binding_valid (call_as k mode (whole_path path)) ≡ true
     → call_by ps (kind_number k + 4 * (mode % 16 + 16 * (path.count % 64 + 64 * step))) w ≡ call_as k mode (whole_path path)
 call_back k mode path step ps w l hk xs e h =

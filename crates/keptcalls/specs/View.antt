@@ -1,6 +1,6 @@
 -- What the words of kept calls mean, in the values of the rules. Any words are some call: 32 with a part each, one with the
 -- small numbers of the call and its step, one with the step's actions.
-use Rattle.std.specs.Prelude.{ℕ, ◌&&◌, ◌/◌, ◌%◌, List, map, eqb, take, if◌then◌else◌}
+use Rattle.std.specs.Prelude.{ℕ, ◌/◌, ◌%◌, List, map, eqb, take, if◌then◌else◌}
 use Rattle.std.proofs.Math.Option.{none, some}
 use Rattle.rules.specs.Basics.{Result, unless}
 use Rattle.rules.specs.Values as v
@@ -40,14 +40,14 @@ call_as (PrefixWithStep step) mode path = v.Prefixes mode path (some (whole_step
 
 -- ---- parts
 
--- an event by the upper and the lower part of its code: every code is some event's
+-- an event by its kind and its value: every number is some kind
 unfoldable pub event_by : ℕ → ℕ → v.Event
-event_by kind n = if eqb kind 0 then v.Key n else (if eqb kind 1 then v.Class n else (if eqb kind 2 && eqb n 0 then v.Any else v.Fallthrough))
+event_by kind n = if eqb kind 0 then v.Key n else (if eqb kind 1 then v.Class n else (if eqb kind 2 then v.Any else v.Fallthrough))
 
 unfoldable pub repeat_by : ℕ → ℕ → v.Repeat
 repeat_by kind n = if eqb kind 0 then v.Once else (if eqb kind 1 then v.Min n else v.Max n)
 
--- the event's code, then the repeat's kind and number, lowest first
+-- the event's value and kind, then the repeat's kind and number, lowest first
 unfoldable pub part_at : ℕ → v.Part
 part_at c = record {
   repeat = repeat_by (c / 65536 / 4 % 4) (c / 65536 / 4 / 4 % 256);

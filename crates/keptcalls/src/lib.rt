@@ -3,5 +3,5 @@
 
 pub mod binding;
 mod pack;
-mod unpack;
+pub mod unpack;
 pub mod words;

@@ -17,7 +17,7 @@ fn event(kind: u32, value: u16) -> EdgeEvent
     match kind {
         0 => EdgeEvent::Key(value),
         1 => EdgeEvent::Class(value),
-        2 if value == 0 => EdgeEvent::Any,
+        2 => EdgeEvent::Any,
         _ => EdgeEvent::Fallthrough,
     }
 }
@@ -33,8 +33,9 @@ fn repeat(kind: u32, number: u16) -> EdgeRepeat
     }
 }
 
+// The part of a code. Any code is some part.
 #[tactic(auto, unfolding(crate::specs::View::part_at, keyvalues::specs::View::part_of))]
-fn part(code: u32) -> EdgePathPart
+pub fn part(code: u32) -> EdgePathPart
     ensures { part_of result ≡ part_at code }
 {
     EdgePathPart {

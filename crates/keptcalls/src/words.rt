@@ -1,12 +1,12 @@
 // A binding call in the words that a machine keeps of it, so that 1,024 calls fit a scanner: a number for each of 32 parts, then
 // a word of small numbers and one of actions. A call that is in range is wholly in them; any other is cut to what there is room
 // for, and the graph refuses it before it could be kept. Any words are some call.
-ghost use Rattle.std.specs.Prelude.{◌≡◌, ◌<◌, true, ℕ, List, map, length, OnErr};
+ghost use Rattle.std.specs.Prelude.{◌≡◌, ◌<◌, ◌≤◌, ◌/◌, ◌%◌, true, ℕ, List, map, length, take, OnErr};
 ghost use Rattle.rules.specs.Values as v;
 ghost use Rattle.rules.specs.Graph.{Graph};
 ghost use Rattle.rules.specs.KeyLoop.{State};
 ghost use Rattle.rules.specs.Calls.{graph_kind, keep};
-ghost use Rattle.keyvalues.specs.View.{part_of, whole_path, call_of, told};
+ghost use Rattle.keyvalues.specs.View.{part_of, step_of, whole_path, whole_step, call_of, told};
 ghost use Rattle.keptcalls.specs.View.{cut_part, parts_in, step_at, kind_number, call_as, binding_in, binding_there, call_in, kept_in, machine_with};
 
 use crate::binding::Binding;
@@ -24,11 +24,19 @@ pub struct CallWords {
     pub actions: u64,
 }
 
-// All 32 parts, also those past the path's count.
-fn part_codes(parts: &[EdgePathPart; EdgePath::PARTS as usize]) -> [u32; EdgePath::PARTS as usize]
-    ensures { (parts_in result ≡ map cut_part (map part_of parts.now)) × (length parts.now ≡ 32) }
+// A code for each part that is there, and zeros behind them.
+fn part_codes(
+    parts: &[EdgePathPart; EdgePath::PARTS as usize],
+    count: u16,
+) -> [u32; EdgePath::PARTS as usize]
+    ensures { (take (length (take count parts.now)) (parts_in result) ≡ map cut_part (map part_of (take count parts.now))) × (length parts.now ≡ 32) }
 {
-    parts.map(|part| pack::part_code(part))
+    let there = list::front(parts, count);
+    let mut codes = [0u32; EdgePath::PARTS as usize];
+    for place in 0..there.len() {
+        codes[place] = pack::part_code(there[place]);
+    }
+    codes
 }
 
 // What a call says beside its mode and its path: a mapping's step, a prefix with no step, or a prefix with its step.
@@ -80,7 +88,7 @@ impl CallWords {
     fn of_kind(kind: Kind, mode: u16, path: &EdgePath) -> CallWords
         ensures { v.binding_valid (call_as kind.entry mode (whole_path path.now)) ≡ true → call_in result ≡ call_as kind.entry mode (whole_path path.now) }
     {
-        let parts = part_codes(&path.parts);
+        let parts = part_codes(&path.parts, path.count);
         let (numbers, actions) = kind.step_words();
         let mode_bits = mode % 16;
         let count = path.count % 64;
@@ -113,6 +121,34 @@ impl CallWords {
             } => CallWords::of_kind(Kind::PrefixWithStep(step), *mode, path),
         }
     }
+
+    // What the words say of a call, each by itself: 0 for a mapping, 1 for a prefix, more for a prefix with its step.
+    pub fn kind(&self) -> u16
+        ensures { result ≡ self.now.head % 4 }
+    {
+        (self.head % 4) as u16
+    }
+
+    pub fn mode(&self) -> u16
+        ensures { result ≡ self.now.head / 4 % 16 }
+    {
+        (self.head / 4 % 16) as u16
+    }
+
+    // How many of the parts count. More than there are is all of them.
+    pub fn count(&self) -> u16
+        ensures { result ≡ self.now.head / 4 / 16 % 64 }
+    {
+        (self.head / 4 / 16 % 64) as u16
+    }
+
+    // The step, which is any where the kind has none.
+    pub fn step(&self) -> Step
+        ensures whole { whole_step result ≡ step_at (self.now.head / 4 / 16 / 64) self.now.actions }
+        ensures there { step_of result ≡ step_at (self.now.head / 4 / 16 / 64) self.now.actions }
+    {
+        unpack::step(self.head / 4 / 16 / 64, self.actions)
+    }
 }
 
 impl From<&CallWords> for Binding {
@@ -123,10 +159,10 @@ impl From<&CallWords> for Binding {
     fn from(words: &CallWords) -> Binding
         ensures { (binding_in result ≡ call_in words.now) × (binding_there result ≡ call_in words.now) }
     {
-        let mode = (words.head / 4 % 16) as u16;
-        let path = unpack::path(&words.parts, (words.head / 4 / 16 % 64) as u16);
-        let step = unpack::step(words.head / 4 / 16 / 64, words.actions);
-        match words.head % 4 {
+        let mode = words.mode();
+        let path = unpack::path(&words.parts, words.count());
+        let step = words.step();
+        match words.kind() {
             0 => Binding::Mapping { mode, path, step },
             1 => Binding::Prefix {
                 mode,

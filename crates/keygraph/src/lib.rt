@@ -9,3 +9,6 @@ mod cursor;
 pub mod mapping;
 pub mod prefix;
 mod repeat;
+
+pub use keyparts::{edge, find, follow, graph, index, search, store};
+pub use keyvalues::{class, copy, event, node, number, path, refusal, step, tables};

@@ -8,3 +8,6 @@
 pub mod live;
 pub mod machine;
 pub mod scanner;
+
+pub use keypairs::{context, pair, state, tracker};
+pub use keytables::{rule, tables};

@@ -36,7 +36,8 @@ pub fn keymap_change(m: &mut Scanner, map: &[u8]) -> u64
 
 // One binding more, in the map file's layout. Refused, the machine is as it was.
 pub fn keymap_bind(m: &mut Scanner, binding: &[u8]) -> u64
-    ensures { (scanner_of m.new, result) ≡ coded (bind_map (scanner_of m.old) binding.now) }
+    ensures tables { m.new.machine.map.tables ≡ m.old.machine.map.tables }
+    ensures bound { (scanner_of m.new, result) ≡ coded (bind_map (scanner_of m.old) binding.now) }
 {
     codes::answer_code(lent::bind_file(m, binding))
 }

@@ -75,7 +75,8 @@ pub fn change_file(m: &mut Scanner, map: &[u8]) -> Result<(), Refusal>
 
 // One binding more.
 pub fn bind(m: &mut Scanner, call: &Binding) -> Result<(), Refusal>
-    ensures { (scanner_of m.new, said_of result) ≡ settled graph_kind (scanner_of m.old) (bind graph_kind (binding_in call.now) (scanner_of m.old)) }
+    ensures tables { m.new.machine.map.tables ≡ m.old.machine.map.tables }
+    ensures bound { (scanner_of m.new, said_of result) ≡ settled graph_kind (scanner_of m.old) (bind graph_kind (binding_in call.now) (scanner_of m.old)) }
 {
     let (map, answer) = m.machine.map.bind(&mut m.kept, call);
     m.machine.map = map;
@@ -85,7 +86,8 @@ pub fn bind(m: &mut Scanner, call: &Binding) -> Result<(), Refusal>
 // One binding of a map file more. It is read to its end before it is called.
 #[tactic(auto, using(crate::proofs::Numbers::not_read))]
 pub fn bind_file(m: &mut Scanner, binding: &[u8]) -> Result<(), Refusal>
-    ensures { (scanner_of m.new, said_of result) ≡ bind_map (scanner_of m.old) binding.now }
+    ensures tables { m.new.machine.map.tables ≡ m.old.machine.map.tables }
+    ensures bound { (scanner_of m.new, said_of result) ≡ bind_map (scanner_of m.old) binding.now }
 {
     bind(m, &binding::read_alone(binding)?)
 }
@@ -152,7 +154,7 @@ pub fn free_nodes(m: &Scanner) -> u16
 // The map file of the machine: its tables and the binding calls that it kept. Accepted, the bytes stand in front of the output
 // and the rest of it stays; refused, all of it is zeros.
 pub fn write(m: &Scanner, output: &mut [u8]) -> Result<usize, Refusal>
-    ensures few { IfOk result (λ n. n ≤ min (length output.old) 812655) }
+    ensures few { IfOk result (λ n. n ≤ min (length output.old) 431724) }
     ensures sent { (length_code result, output.new) ≡ write_call graph_kind (scanner_of m.now) output.old }
 {
     map::write_map(&m.kept, m.machine.map.kept, &m.machine.map.tables, output)

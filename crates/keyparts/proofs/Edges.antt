@@ -10,11 +10,11 @@ use Rattle.keyvalues.proofs.Words.{same_code}
 use Rattle.keyparts.specs.declared.edge.EdgeWord.{EdgeWord}
 use Rattle.keyparts.specs.View.{edge_of, key_is}
 
-key_coded : (n code : ℕ) (w : EdgeWord) → n < 65536 → is_edge n (event_at code) (edge_of w) ≡ key_is (n + code * 65536) w
+pub key_coded : (n code : ℕ) (w : EdgeWord) → n < 65536 → is_edge n (event_at code) (edge_of w) ≡ key_is (n + code * 65536) w
 unfolding is_edge edge_of key_is
 key_coded n code w h = rw same_code (grind (arith, nat_tests))
 
-word_coded : (from code to : ℕ) (w : EdgeWord) → from < 65536 → to < 65536 → w.word ≡ to + 65536 * (from + code * 65536) → edge_of w ≡ record { from = from; event = event_at code; to = to }
+pub word_coded : (from code to : ℕ) (w : EdgeWord) → from < 65536 → to < 65536 → w.word ≡ to + 65536 * (from + code * 65536) → edge_of w ≡ record { from = from; event = event_at code; to = to }
 unfolding edge_of
 word_coded from code to w hf ht e = grind arith
 

@@ -6,6 +6,7 @@ use Rattle.std.specs.Prelude.{if◌then◌else◌, cond, Some, None}
 use Rattle.std.specs.Option.{unwrap_or, MatchOption, IsSomeAnd}
 use Rattle.std.specs.Simd.{first_chunks}
 use Rattle.std.specs.List.{position, position_or_len, position_from, list_any}
+use Rattle.std.proofs.lemmas.List.{get_or-map}
 use Rattle.std.proofs.lemmas.List.Recursion.{is_position_or_len}
 use Rattle.std.proofs.lemmas.List.Folds.{list_any_more}
 use Rattle.std.proofs.lemmas.List.Sums.{prefix_len-le-length, passes_at_first}
@@ -18,15 +19,15 @@ use mathlib.Core.Option.{none, some}
 use native.Mathlib.Omega.{arith}
 use native.Mathlib.Numerals.{add-one}
 use lib.Dec.{ltb, eqb}
-use lib.ListN.{length, take, drop, length-drop, set, get_or, length-map}
+use lib.ListN.{length, take, drop, length-drop, set, get_or, length-map, drop_of_length-le}
 use Rattle.keyvalues.specs.declared.node.NodeWords.{NodeWords}
-use lib.Seq.{take_all}
+use lib.Seq.{take_all, drop-cons}
 use borrow.Author.Tests.{lt-ltb, le-ltb, ltb-true, ltb-false}
 use Rattle.rules.specs.Basics.{accept, refuse, some_of, unless}
 use Rattle.rules.proofs.Tests.{by_cases}
 use Rattle.rules.specs.Values.{Event}
 use Rattle.rules.specs.Graph.{is_edge, Edge, end_in, replace_in, put_edge, add_edge, get_edge, Node, no_node}
-use Rattle.rules.specs.Calls.{first_node}
+use Rattle.rules.specs.Calls.{first_node, holds_action, find}
 use Rattle.keyvalues.specs.View.{maybe_of, event_at, event_code, graph_by, node_in, node_at, action_at}
 use Rattle.keyparts.specs.declared.edge.EdgeWord.{EdgeWord}
 use Rattle.keyparts.specs.View.{key_in, no_edge, edge_of, key_is, first_place, word_put, end_of, edge_words, graph_of, empty_words}
@@ -109,20 +110,27 @@ first_in_rest p n xs h =
     let l : length (drop n xs) ≤ length xs - n = omega (arith, length-drop n xs) in
     rw (take_all (length xs - n) (drop n xs) l) (first_from p n xs h)
 
--- the first of the nodes that stand for words
-module _ {A : Type 0} (f : A → Node) (p : Node → Bool) where
-  from_place : (n : ℕ) (xs : List A) → maybe_of (position_from (λ x. p (f x)) n xs) ≡ first_node p n (map f xs)
-  unfolding first_node
-  from_place n [] = refl
-  from_place n (x ∷ xs) = rw add-one (go (p (f x)) (from_place (suc n) xs))
-    where
-      go : (b : Bool) → maybe_of (position_from (λ y. p (f y)) (suc n) xs) ≡ first_node p (suc n) (map f xs)
-          → maybe_of (cond b (Some n) (position_from (λ y. p (f y)) (suc n) xs)) ≡ (if b then some n else first_node p (suc n) (map f xs))
-      go true h = refl
-      go false h = h
+-- a node is read from its words
+pub node_read : (ws : List NodeWords) (i : ℕ) → i < length ws → get_or (map node_in ws) i no_node ≡ node_in (get_or ws i empty_words)
+node_read ws i h = get_or-map node_in ws i empty_words no_node h
 
-  pub node_told : (xs : List A) → maybe_of (position (λ x. p (f x)) xs) ≡ first_node p 0 (map f xs)
-  node_told xs = ap maybe_of (position_from-zero (λ x. p (f x)) xs) ∙ from_place 0 xs
+-- ---- the search for a node: what is left of it from node i on gives what all of it gives
+abbrev pub LeftFrom : List Node → ℕ → ℕ → ℕ → Type 0
+LeftFrom ns mode a i = first_node (holds_action mode a) 0 ns ≡ first_node (holds_action mode a) i (drop i ns)
+
+module _ (ns : List Node) (mode a i : ℕ) (left : LeftFrom ns mode a i) where
+  pub node_next : i < length ns → holds_action mode a (get_or ns i no_node) ≡ false → LeftFrom ns mode a (i + 1)
+  unfolding first_node
+  node_next l t = left ∙ rw (drop-cons ns i no_node l, t, add-one)
+
+  module _ (es : List Edge) (known : mode < 16) where
+    pub node_here : i < length ns → holds_action mode a (get_or ns i no_node) ≡ true → accept (some i) ≡ find (graph_by ns es) mode a
+    unfolding find first_node
+    node_here l t = rw (lt-ltb mode 16 known, left, drop-cons ns i no_node l, t)
+
+    pub node_none : length ns ≤ i → accept none ≡ find (graph_by ns es) mode a
+    unfolding find first_node
+    node_none l = rw (lt-ltb mode 16 known, left, drop_of_length-le ns l)
 
 pub any_told : {A B : Type 0} (f : A → B) (p : B → Bool) (xs : List A) → list_any (λ x. p (f x)) xs ≡ some_of p (map f xs)
 unfolding some_of
@@ -142,12 +150,6 @@ module _ (ws : List EdgeWord) (w : EdgeWord) where
   pub word_nowhere : length ws ≤ first_place (key_is (key_in w)) ws → 2048 ≤ length ws → ws ≡ word_put ws w
   unfolding word_put
   word_nowhere h r = rw (le-ltb (first_place (key_is (key_in w)) ws) (length ws) h, le-ltb (length ws) 2048 r)
-
--- what a map gives that changes no number
-pub same_number : {P : ℕ → ℕ → Type 0} (m n : Prelude.Option ℕ) → ((x r : ℕ) → P x r → r ≡ x) → MatchOption m (n ≡ None) (λ x. IsSomeAnd n (P x)) → maybe_of n ≡ maybe_of m
-same_number None n same h = ap maybe_of h
-same_number (Some x) None same h = absurd h
-same_number (Some x) (Some y) same h = ap some (same x y h)
 
 pub first_has : {A : Type 0} (p : A → Bool) (d : A) (xs : List A) → first_place p xs < length xs → p (get_or xs (first_place p xs) d) ≡ true
 first_has p d xs h = rw (first_is p xs) (passes_at_first p xs d (rw (first_is p xs) at h))

@@ -28,10 +28,12 @@ impl Graph {
             return Err(Refusal::OutOfRange);
         }
         let nodes = list::front(&self.nodes, self.counts.nodes);
-        let place = nodes
-            .iter()
-            .position(|words| has_action(words, mode, action));
-        Ok(place.map(|n| n as u16))
+        for place in 0..nodes.len() {
+            if has_action(&nodes[place], mode, action) {
+                return Ok(Some(place as u16));
+            }
+        }
+        Ok(None)
     }
 
     // How many nodes are left: all that may be made, less those beside the roots.

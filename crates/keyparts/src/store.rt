@@ -1,5 +1,5 @@
 // Stores: an edge, a node more, and the step of a node that is there.
-ghost use Rattle.std.specs.Prelude.{◌≡◌, map, ltb};
+ghost use Rattle.std.specs.Prelude.{◌≡◌, map, ltb, set};
 ghost use Rattle.rules.specs.Basics as b;
 ghost use Rattle.rules.specs.Graph as g;
 ghost use Rattle.keyvalues.specs.View.{event_of, graph_by, node_in, told};
@@ -15,6 +15,24 @@ use keyvalues::node::NodeWords;
 use keyvalues::refusal::Refusal;
 
 impl Graph {
+    // The word of an edge at a place, whether it counts or not. Past the last place nothing is stored.
+    pub fn set_edge(&mut self, place: usize, word: EdgeWord)
+        ensures { self.new ≡ record self.old { edges = set self.old.edges place word } }
+    {
+        if place < Graph::EDGES as usize {
+            self.edges[place] = word;
+        }
+    }
+
+    // The words of a node, whether it counts or not. Past the last node nothing is stored.
+    pub fn set_node(&mut self, node: u16, words: NodeWords)
+        ensures { self.new ≡ record self.old { nodes = set self.old.nodes node words } }
+    {
+        if node < Graph::NODES {
+            self.nodes[node as usize] = words;
+        }
+    }
+
     // An edge's word goes to the place that a search for its key gave: in for the one that stands there, and else behind the
     // last, which is the place that a search without a hit gives.
     #[tactic(auto, using(crate::proofs::Stores::put_over, crate::proofs::Stores::put_behind, crate::proofs::Stores::put_nowhere, crate::proofs::Stores::stored_over, crate::proofs::Stores::stored_behind, crate::proofs::Stores::stored_nowhere))]
@@ -23,7 +41,7 @@ impl Graph {
         ensures stored { place ≡ first_place (key_is (key_in word)) (edge_words self.old) → told (λ _. graph_of self.new) result ≡ b.unless (ltb place 2048) 3 (b.accept (graph_by (graph_of self.old).nodes (map edge_of (edge_words self.new)))) }
     {
         if place < self.edge_words().len() {
-            self.edges[place] = word;
+            self.set_edge(place, word);
             return Ok(());
         }
         let count = list::append(&mut self.edges, self.counts.edges, word);

@@ -1,8 +1,9 @@
 -- What the declared types of values and the words that they are kept in mean, in the values of the rules. Every word decodes to
 -- something.
 use Rattle.std.specs.Prelude
-use Rattle.std.specs.Prelude.{Some, None, Ok, Err, ℕ, zero, suc, ◌+◌, ◌-◌, ◌/◌, ◌%◌, Bool, true, false, List, [], ◌∷◌, ◌++◌, map, ltb, eqb, take, replicate, if◌then◌else◌}
+use Rattle.std.specs.Prelude.{Some, None, Ok, Err, ℕ, zero, suc, ◌+◌, ◌-◌, ◌/◌, ◌%◌, Bool, true, false, List, [], ◌∷◌, ◌++◌, map, ltb, eqb, length, take, drop, replicate, if◌then◌else◌}
 use Rattle.std.proofs.Math.Option.{Option, none, some}
+use Rattle.std.proofs.Math.Seq.{paste}
 use Rattle.rules.specs.Basics.{Result, accept, refuse}
 use Rattle.rules.specs.Values as v
 use Rattle.rules.specs.Tables.{ClassEntry}
@@ -110,6 +111,13 @@ said_of (Err r) = calls.Refused (number_of r)
 unfoldable pub settled : {A : Type 0} → A → Result A → A × calls.Answer
 settled old (accept new) = (new, calls.Accepted)
 settled old (refuse n) = (old, calls.Refused n)
+
+-- ---- items that are copied
+
+-- n items of src from one place on, in dst from another on; where they do not fit, dst
+unfoldable pub copied : {A : Type 0} → List A → ℕ → List A → ℕ → ℕ → List A
+copied dst to src from n =
+    if ltb (length dst) (to + n) then dst else (if ltb (length src) (from + n) then dst else paste dst to (drop from src) n)
 
 -- ---- what a caller hands over
 

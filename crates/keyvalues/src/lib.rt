@@ -5,6 +5,7 @@
 
 pub mod actions;
 pub mod class;
+pub mod copy;
 pub mod event;
 pub mod list;
 pub mod node;

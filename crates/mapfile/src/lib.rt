@@ -7,3 +7,5 @@ pub mod map;
 mod pairs;
 mod play;
 pub mod run;
+
+pub use mapparts::reader;

@@ -13,7 +13,9 @@ pub struct Writer<'a> {
 }
 
 impl<'a> Writer<'a> {
-    // All of the bytes, or none where they do not fit.
+    // All of the bytes, or none where they do not fit. It is built in, so that a number's bytes are stored as they are, and not
+    // copied by a call.
+    #[inline(always)]
     #[tactic(auto, using(crate::proofs::Writing::too_long))]
     pub fn put_bytes(&mut self, bytes: &[u8]) -> Result<(), Refusal>
         ensures writes { Writes (placed bytes.now) self.old result self.new }

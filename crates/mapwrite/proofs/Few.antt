@@ -51,7 +51,7 @@ module _ {A B : Type 0} (w : B → List ℕ) (f : A → B) where
 actions_few : (n w : ℕ) → length (listed alone (take n (four_of w))) ≤ 5
 actions_few n w = omega (arith, listed_few alone 1 (λ x. omega arith) (take n (four_of w)), length-take n (four_of w))
 
-mode_few : (b : ModeWords) → length (mode_numbers (entry_in b)) ≤ 11
+pub mode_few : (b : ModeWords) → length (mode_numbers (entry_in b)) ≤ 11
 unfolding mode_numbers entry_in
 mode_few b =
     let e = listed alone (take (b.head % 8) (four_of (b.enter))) in
@@ -59,11 +59,11 @@ mode_few b =
     let n = alone (mode_number (opt_of (b.head / 64))) in
     omega (arith, length-append e (u ++ n), length-append u n, actions_few (b.head % 8) (b.enter), actions_few (b.head / 8 % 8) (b.unmapped))
 
-class_few : (w : ClassWord) → length (class_numbers (class_at w)) ≤ 3
+pub class_few : (w : ClassWord) → length (class_numbers (class_at w)) ≤ 3
 unfolding class_numbers
 class_few w = omega arith
 
-rule_few : (w : RuleWord) → length (rule_numbers (rule_of w)) ≤ 5
+pub rule_few : (w : RuleWord) → length (rule_numbers (rule_of w)) ≤ 5
 unfolding rule_numbers
 rule_few w = omega arith
 
@@ -80,7 +80,7 @@ event_few (Class c) = omega arith
 event_few Any = omega arith
 event_few Fallthrough = omega arith
 
-part_few : (p : Part) → length (part_numbers p) ≤ 4
+pub part_few : (p : Part) → length (part_numbers p) ≤ 4
 unfolding part_numbers
 part_few p = omega (arith, repeat_few p.repeat, event_few p.event, length-append (repeat_numbers p.repeat) (event_numbers p.event))
 
@@ -109,6 +109,12 @@ kept_few : (w : CallWords) → length (binding_numbers (call_in w)) ≤ 264
 kept_few w =
     let l : length (take (w.head / 4 / 16 % 64) (parts_in w.parts)) ≤ 63 = omega (arith, length-take (w.head / 4 / 16 % 64) (parts_in w.parts)) in
     kept_by w 63 l
+
+-- a call of the code, whose words have room for 32 parts
+pub call_short : (w : CallWords) → length w.parts ≡ 32 → length (binding_numbers (call_in w)) ≤ 140
+call_short w h =
+    let l : length (take (w.head / 4 / 16 % 64) (parts_in w.parts)) ≤ 32 = omega (arith, length-take (w.head / 4 / 16 % 64) (parts_in w.parts), length-map w.parts part_at, h) in
+    kept_by w 32 l
 
 abbrev pub Paths : List CallWords → Type 0
 Paths [] = Unit {0}
@@ -172,6 +178,10 @@ module _ (t : Tables) (n : ℕ) (ks : List CallWords) (few : length (tables_numb
   -- whatever words the calls have
   pub map_bounded : length (write_map t (kept_in n ks)) ≤ 812655
   map_bounded = omega (arith, by_calls 270337 (omega (arith, table_few binding_numbers call_in 264 kept_few n ks, length-take n ks)))
+
+  -- those of which each was seen to have few numbers, as it was put
+  pub map_short : length (listed binding_numbers (map call_in (take n ks))) ≤ 1 + 140 * length (take n ks) → length (write_map t (kept_in n ks)) ≤ 431724
+  map_short each = omega (arith, by_calls 143361 (omega (arith, each, length-take n ks)))
 
   calls_short : Paths ks → length (write_map t (kept_in n ks)) ≤ 431724
   calls_short h = by_calls 143361 (omega (arith, calls_few (take n ks) (paths_take n ks h), length-take n ks))

@@ -1,5 +1,5 @@
 -- All numbers of a map, put from the front of the output, are what is sent: they fit or they do not.
-use Prim.Native.Nat.{ℕ, ◌+◌, ◌≤◌, min}
+use Prim.Native.Nat.{ℕ, ◌+◌, ◌*◌, ◌≤◌, min}
 use native.Mathlib.Omega.{arith}
 use native.Mathlib.Nat.{zero-add}
 use mathlib.Core.Path.{◌≡◌, refl, sym, ap, ◌∙◌}
@@ -18,7 +18,7 @@ use Rattle.keyvalues.specs.declared.refusal.Refusal.{Refusal}
 use Rattle.keyvalues.specs.View.{number_of, told}
 use Rattle.keptcalls.specs.View.{call_in, kept_in}
 use Rattle.keptcalls.specs.declared.words.CallWords.{CallWords}
-use Rattle.mapwrite.proofs.Few.{map_bounded}
+use Rattle.mapwrite.proofs.Few.{map_short}
 use Rattle.mapparts.specs.View.{laid, Page, placed, put_all, length_code}
 use Rattle.mapparts.proofs.Writing.{fitted, full, put_placed, put_append, then_put}
 
@@ -56,6 +56,7 @@ module _ (t : Tables) (xs : List Binding) (out : List ℕ) where
 
 -- a map has few bytes
 pub few_put : (t : Tables) (n : ℕ) (ks : List CallWords) (out : List ℕ) (p q : Page) → length (tables_numbers t) ≤ 547 → length ks ≡ 1024
-    → accept p ≡ put_all (tables_numbers t) (0, out) → accept q ≡ put_all (listed binding_numbers (map call_in (take n ks))) p → q.0 ≤ min (length out) 812655
+    → length (listed binding_numbers (map call_in (take n ks))) ≤ 1 + 140 * length (take n ks)
+    → accept p ≡ put_all (tables_numbers t) (0, out) → accept q ≡ put_all (listed binding_numbers (map call_in (take n ks))) p → q.0 ≤ min (length out) 431724
 unfolding kept_in
-few_put t n ks out p q few hk e k = let s = sent_length t (kept_in n ks) out p q e k in omega (arith, s.0, s.1, map_bounded t n ks few (omega arith))
+few_put t n ks out p q few hk each e k = let s = sent_length t (kept_in n ks) out p q e k in omega (arith, s.0, s.1, map_short t n ks few (omega arith) each)

@@ -1,5 +1,5 @@
 // Lists, of actions among others: a count, then each.
-ghost use Rattle.std.specs.Prelude.{◌∷◌, [], ℕ, List, map, take};
+ghost use Rattle.std.specs.Prelude.{◌∷◌, [], ℕ, ◌+◌, ◌*◌, ◌≤◌, List, map, length, take, OnOk};
 ghost use Rattle.rules.specs.Writing.{alone, listed, mode_number, mark_number};
 ghost use Rattle.keyvalues.specs.View.{maybe_of, actions_by};
 ghost use Rattle.mapparts.specs.View.{put_all, Writes};
@@ -20,8 +20,12 @@ pub trait Written {
 
     ghost value: { Self.Kept → Value };
 
+    // So many numbers at most.
+    ghost most: { ℕ };
+
     fn write_to(kept: &Self::Kept, writer: &mut Writer) -> Result<(), Refusal>
-        ensures { Writes (put_all (numbers (value kept.now))) writer.old result writer.new };
+        ensures few { OnOk result (length (numbers (value kept.now)) ≤ most) }
+        ensures writes { Writes (put_all (numbers (value kept.now))) writer.old result writer.new };
 }
 
 // An action.
@@ -34,18 +38,23 @@ impl Written for u16 {
 
     ghost value = { λ n. n };
 
+    ghost most = { 1 };
+
+    #[inline(always)]
     fn write_to(kept: &u16, writer: &mut Writer) -> Result<(), Refusal> {
         writer.put(*kept)
     }
 }
 
 // The first `count` items, behind how many they are. A count past the end is all of them.
+#[inline(always)]
 pub(crate) fn put_list<E: Written>(
     items: &[E::Kept],
     count: u16,
     writer: &mut Writer,
 ) -> Result<(), Refusal>
-    ensures { Writes (put_all (listed E.numbers (map E.value (take count items.now)))) writer.old result writer.new }
+    ensures few { OnOk result (length (listed E.numbers (map E.value (take count items.now))) ≤ 1 + E.most * length (take count items.now)) }
+    ensures writes { Writes (put_all (listed E.numbers (map E.value (take count items.now)))) writer.old result writer.new }
 {
     let there = list::front(items, count);
     writer.put(there.len() as u16)?;
@@ -56,6 +65,7 @@ pub(crate) fn put_list<E: Written>(
 }
 
 // A list of actions.
+#[inline(always)]
 #[tactic(auto, using(crate::proofs::Lists::action_list))]
 pub(crate) fn put_actions(actions: &Actions, writer: &mut Writer) -> Result<(), Refusal>
     ensures { Writes (put_all (listed alone (actions_by actions.now))) writer.old result writer.new }
@@ -64,6 +74,7 @@ pub(crate) fn put_actions(actions: &Actions, writer: &mut Writer) -> Result<(), 
 }
 
 // 0, or mode + 1.
+#[inline(always)]
 #[tactic(auto, unfolding(rules::specs::Writing::mode_number))]
 pub(crate) fn put_mode(mode: Option<u16>, writer: &mut Writer) -> Result<(), Refusal>
     ensures { Writes (put_all (mode_number (maybe_of mode) ∷ [])) writer.old result writer.new }
@@ -75,6 +86,7 @@ pub(crate) fn put_mode(mode: Option<u16>, writer: &mut Writer) -> Result<(), Ref
 }
 
 // 0, or the mark itself.
+#[inline(always)]
 #[tactic(auto, unfolding(rules::specs::Writing::mark_number))]
 pub(crate) fn put_mark(mark: Option<u16>, writer: &mut Writer) -> Result<(), Refusal>
     ensures { Writes (put_all (mark_number (maybe_of mark) ∷ [])) writer.old result writer.new }

@@ -22,7 +22,7 @@ fn write_or_scratch(
     tables: &TableWords,
     output: &mut [u8],
 ) -> Result<usize, Refusal>
-    ensures few { IfOk result (λ n. n ≤ min (length output.old) 812655) }
+    ensures few { IfOk result (λ n. n ≤ min (length output.old) 431724) }
     ensures wrote { told (λ n. (n, output.new)) result ≡ placed (write_map (tables_of tables.now) (kept_in count kept.now)) (0, output.old) }
 {
     let mut writer = Writer {
@@ -41,7 +41,7 @@ pub fn write_map(
     tables: &TableWords,
     output: &mut [u8],
 ) -> Result<usize, Refusal>
-    ensures few { IfOk result (λ n. n ≤ min (length output.old) 812655) }
+    ensures few { IfOk result (λ n. n ≤ min (length output.old) 431724) }
     ensures sent { (length_code result, output.new) ≡ sent (tables_of tables.now) (kept_in count kept.now) output.old }
 {
     let written = write_or_scratch(kept, count, tables, output);

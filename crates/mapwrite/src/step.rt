@@ -9,6 +9,7 @@ use keyvalues::refusal::Refusal;
 use keyvalues::step::Step;
 use mapparts::writer::Writer;
 
+#[inline(always)]
 #[tactic(auto, unfolding(rules::specs::Writing::flag_number))]
 fn put_flag(flag: bool, writer: &mut Writer) -> Result<(), Refusal>
     ensures { Writes (put_all (flag_number flag ∷ [])) writer.old result writer.new }
@@ -17,6 +18,7 @@ fn put_flag(flag: bool, writer: &mut Writer) -> Result<(), Refusal>
 }
 
 // Flag, list, next mode, fallthrough, mark.
+#[inline(always)]
 #[tactic(auto, using(mapparts::proofs::Writing::writing), unfolding(rules::specs::Writing::step_numbers, keyvalues::specs::View::step_of))]
 pub(crate) fn put_step(step: &Step, writer: &mut Writer) -> Result<(), Refusal>
     ensures { Writes (put_all (step_numbers (step_of step.now))) writer.old result writer.new }

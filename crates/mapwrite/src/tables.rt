@@ -24,7 +24,10 @@ impl Written for ClassEntry {
 
     ghost value = { class_at };
 
-    #[tactic(auto, using(mapparts::proofs::Writing::writing), unfolding(rules::specs::Writing::class_numbers))]
+    ghost most = { 3 };
+
+    #[inline(always)]
+    #[tactic(auto, using(mapparts::proofs::Writing::writing, crate::proofs::Few::class_few), unfolding(rules::specs::Writing::class_numbers))]
     fn write_to(kept: &ClassWord, writer: &mut Writer) -> Result<(), Refusal> {
         let class = ClassEntry::from(*kept);
         writer.put(class.class)?;
@@ -42,7 +45,10 @@ impl Written for ModeEntry {
 
     ghost value = { entry_in };
 
-    #[tactic(auto, using(mapparts::proofs::Writing::writing), unfolding(rules::specs::Writing::mode_numbers, keytables::specs::View::entry_by))]
+    ghost most = { 11 };
+
+    #[inline(always)]
+    #[tactic(auto, using(mapparts::proofs::Writing::writing, crate::proofs::Few::mode_few), unfolding(rules::specs::Writing::mode_numbers, keytables::specs::View::entry_by))]
     fn write_to(kept: &ModeWords, writer: &mut Writer) -> Result<(), Refusal> {
         let entry = ModeEntry::from(*kept);
         list::put_actions(&entry.enter, writer)?;
@@ -60,7 +66,10 @@ impl Written for Rule {
 
     ghost value = { rule_of };
 
-    #[tactic(auto, using(mapparts::proofs::Writing::writing), unfolding(rules::specs::Writing::rule_numbers))]
+    ghost most = { 5 };
+
+    #[inline(always)]
+    #[tactic(auto, using(mapparts::proofs::Writing::writing, crate::proofs::Few::rule_few), unfolding(rules::specs::Writing::rule_numbers))]
     fn write_to(kept: &RuleWord, writer: &mut Writer) -> Result<(), Refusal> {
         let rule = Rule::from(*kept);
         writer.put(rule.mode)?;
@@ -71,6 +80,7 @@ impl Written for Rule {
     }
 }
 
+#[inline(always)]
 #[tactic(auto, using(mapparts::proofs::Writing::writing, crate::proofs::Few::tables_short), unfolding(rules::specs::Writing::tables_numbers))]
 pub(crate) fn put_tables(tables: &TableWords, writer: &mut Writer) -> Result<(), Refusal>
     ensures few { OnOk result (length (tables_numbers (tables_of tables.now)) ≤ 547) }

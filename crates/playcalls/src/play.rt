@@ -35,7 +35,8 @@ fn perform<W: Write>(out: &mut W, m: &mut Scanner, next: &NewMap, call: Call) ->
 }
 
 // To the end of the input, or to the first call that is malformed. A call takes a byte at least, so there are no more calls
-// than bytes.
+// than bytes. It is called, and not built in, so that an input without a call takes no stack for a new map.
+#[inline(never)]
 fn play_calls<W: Write>(out: &mut W, input: &mut Reader, m: &mut Scanner) -> io::Result<()> {
     let mut next = NewMap::fresh();
     for _ in 0..input.rest.len() {
@@ -73,6 +74,7 @@ pub(crate) fn play<W: Write>(out: &mut W, bytes: &[u8]) -> io::Result<()> {
     let mut m = fresh();
     match open(&mut input, &mut m) {
         Err(refusal) => print::refused_line(out, refusal),
+        Ok(()) if input.rest.is_empty() => Ok(()),
         Ok(()) => play_calls(out, &mut input, &mut m),
     }
 }

@@ -1,12 +1,20 @@
--- Each code is that of its part.
-use Rattle.std.proofs.Common.{rules, sym, ◌∙◌}
-use borrow.Author.Tests.{tests}
-use Rattle.keyvalues.specs.View.{part_of}
-use Rattle.keptcalls.specs.View.{cut_part, part_at}
-use mathlib.Core.List.{map-map}
-use Rattle.keyvalues.proofs.Maps.{mapped}
+-- A turn of the loop stores the code of the next part behind those that are there.
+use mathlib.Core.Path.{refl, ap}
+use Prim.Native.Nat.{◌<◌}
+use native.Mathlib.Omega.{arith}
+use lib.ListN.{length, length-take}
+use Rattle.keptcalls.proofs.Packing.{codes_more, codes_all}
 use Rattle.keptcalls.proofs.words.part_codes.Goals as goal
 
+pub loop-place-init : goal.loop-place-init
+loop-place-init c = (refl, refl)
+
+pub loop-place-preserved : goal.loop-place-preserved
+loop-place-preserved c = let l = c.loop-place in
+    let h : l.place < 32 = omega (arith, c.loop-place-test.true, ap length c.front-there.ensures, length-take c.args.count c.args.parts.now, c.told-parts) in
+    codes_more l.codes c.front-there.result.now l.place c.part_code.result _ l.invariant.0 h c.loop-place-test.true c.part_code.ensures l.invariant.1
+
 pub returns : goal.returns
-returns c = let ps = c.args.parts.now in
-    (mapped part_at (λ part. cut_part (part_of part)) ps c.map.result c.told-parts c.map.ensures.items (λ p q x y k. search (rules, tests)) ∙ sym (map-map cut_part part_of ps), c.told-parts)
+returns c = let l = c.loop-place in
+    let e = codes_all l.codes c.front-there.result.now l.place c.loop-place.auto.place-end c.loop-place-test.false l.invariant.1 in
+    (rw (← c.front-there.ensures) e, c.told-parts)
