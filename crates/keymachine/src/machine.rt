@@ -57,7 +57,8 @@ impl ModalMachine {
         }
     }
 
-    // One key, and the rounds that were made.
+    // One key, and the rounds that were made. Built in, as the calls below: else the machine is copied into the call and out of it.
+    #[inline(always)]
     pub fn input_key(mut self, key: u16, budget: u16) -> (ModalMachine, (u16, Result<(), Refusal>))
         ensures { (ws : List CallWords) → (machine_of ws result.0, press_of result.1) ≡ call graph_kind (machine_of ws self) (Press (record { key = key; budget = budget })) }
     {
@@ -66,15 +67,21 @@ impl ModalMachine {
         (self, answer)
     }
 
-    // The first waiting pair, if there is one.
-    pub fn pop(mut self) -> (ModalMachine, Option<Pair>)
+    // The first waiting pair, if there is one. The map's last number is set to what it is: so the compiler sees where the map ends
+    // and the live state begins, and leaves the map in its place.
+    #[inline(always)]
+    pub fn pop(self) -> (ModalMachine, Option<Pair>)
         ensures { (ws : List CallWords) → (machine_of ws result.0, pop_of result.1) ≡ call graph_kind (machine_of ws self) Pop }
     {
-        let answer = self.live.pop();
-        (self, answer)
+        let mut live = self.live;
+        let answer = live.pop();
+        let mut map = self.map;
+        map.kept = self.map.kept;
+        (ModalMachine { map, live }, answer)
     }
 
     // Mode 0 is entered and every sequence broken. The trail is kept.
+    #[inline(always)]
     pub fn reset_mode(mut self) -> (ModalMachine, Result<(), Refusal>)
         ensures { (ws : List CallWords) → (machine_of ws result.0, said_of result.1) ≡ call graph_kind (machine_of ws self) Reset }
     {
@@ -83,6 +90,7 @@ impl ModalMachine {
     }
 
     // The remembered pairs of the sequence, overridden and stored again, go before the queue.
+    #[inline(always)]
     pub fn repeat(
         mut self,
         sequence: u16,

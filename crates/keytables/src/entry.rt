@@ -1,5 +1,5 @@
 // The entries of the tables: what is in range, and the words that an entry is kept in.
-ghost use Rattle.std.specs.Prelude.{◌≡◌, true, Bool, ◌&&◌, leb, length, take};
+ghost use Rattle.std.specs.Prelude.{◌≡◌, true, Bool, ◌&&◌, ℕ, ◌<◌, ◌≤◌, leb, length, take, get_or};
 ghost use Rattle.std.specs.List.{list_all};
 
 use keyvalues::list;
@@ -31,4 +31,14 @@ pub(crate) fn table_valid<E: Entry>(entries: &[E], count: u16) -> bool
     ensures { result ≡ (leb count (length entries.now) && list_all E.in_range (take count entries.now)) }
 {
     count as usize <= entries.len() && all_valid(list::front(entries, count))
+}
+
+// The words of the entries, one by one, in front of those that are there: an array's `map` would pack those past the sizes too.
+pub(crate) fn pack_front<E: Entry>(entries: &[E], words: &mut [E::Words])
+    requires { length entries.now ≤ length words.old }
+    ensures { (i : ℕ) (d : E) (w : E.Words) → i < length entries.now → E.in_range (get_or entries.now i d) ≡ true → E.means (get_or words.new i w) (get_or entries.now i d) }
+{
+    for place in 0..entries.len() {
+        words[place] = entries[place].pack();
+    }
 }

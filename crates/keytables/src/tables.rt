@@ -14,7 +14,7 @@ use keyvalues::class::ClassWord;
 use keyvalues::event::EdgeEvent;
 use keyvalues::refusal::Refusal;
 use keyvalues::tables::{ModeWords, TableWords};
-use keyvalues::{node, step};
+use keyvalues::{list, node, step};
 
 #[derive(Clone, Copy, Debug, PartialEq, Eq, Default)]
 pub struct ClassEntry {
@@ -177,20 +177,27 @@ impl Tables {
                 && entry::table_valid(&self.rules, self.sizes.rules))
     }
 
-    // The words of tables that are in range. Entries past the sizes may come out as any words, and are never read.
+    // The words of tables that are in range. A call of its own: built in, its arrays hide from the compiler that a machine which is
+    // opened by value need not be cleared first.
+    #[inline(never)]
     pub fn pack(&self) -> Result<TableWords, Refusal>
         ensures { told tables_of result ≡ unless (t.tables_valid (whole_tables self.now)) 1 (accept (whole_tables self.now)) }
     {
         if !self.valid() {
             return Err(Refusal::OutOfRange);
         }
-        Ok(TableWords {
+        let mut words = TableWords {
             class_count: self.sizes.classes,
-            classes: self.classes.map(|entry| entry.pack()),
             mode_count: self.sizes.modes,
-            modes: self.modes.map(|entry| entry.pack()),
             rule_count: self.sizes.rules,
-            rules: self.rules.map(|entry| entry.pack()),
-        })
+            ..TableWords::EMPTY
+        };
+        entry::pack_front(
+            list::front(&self.classes, words.class_count),
+            &mut words.classes,
+        );
+        entry::pack_front(list::front(&self.modes, words.mode_count), &mut words.modes);
+        entry::pack_front(list::front(&self.rules, words.rule_count), &mut words.rules);
+        Ok(words)
     }
 }

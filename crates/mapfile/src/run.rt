@@ -6,6 +6,7 @@ ghost use Rattle.mapfile.specs.View.{Ran};
 
 use crate::play;
 use keyvalues::refusal::Refusal;
+use mapparts::writer;
 
 // The bytes of the output that a run uses at most.
 pub const MOST_OUTPUT: usize = 65536;
@@ -20,7 +21,7 @@ pub fn run(map: &[u8], keys: &[u8], output: &mut [u8], budget: u16) -> Result<us
     let room = output.len().min(MOST_OUTPUT);
     let written = play::play(map, keys, &mut output[..room], budget);
     if written.is_err() {
-        output.fill(0);
+        writer::clear_all(output);
     }
     written
 }

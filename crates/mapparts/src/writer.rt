@@ -1,5 +1,5 @@
 // Numbers written into bytes that are lent, as the reader reads them.
-ghost use Rattle.std.specs.Prelude.{[], ◌∷◌, ◌≤◌, suc};
+ghost use Rattle.std.specs.Prelude.{◌≡◌, [], ◌∷◌, ◌≤◌, suc, length, replicate};
 ghost use Rattle.rules.specs.Numbers.{bytes_of};
 ghost use Rattle.mapparts.specs.View.{placed, put_all, Writes, Stays};
 
@@ -10,6 +10,13 @@ use keyvalues::refusal::Refusal;
 pub struct Writer<'a> {
     pub bytes: &'a mut [u8],
     pub at: usize,
+}
+
+// Zeros throughout, as a refused call leaves what was lent.
+pub fn clear_all(out: &mut [u8])
+    ensures { out.new ≡ replicate (length out.old) 0 }
+{
+    out.fill(0);
 }
 
 impl<'a> Writer<'a> {

@@ -11,6 +11,7 @@ use keptcalls::binding::Binding;
 use keptcalls::words::CallWords;
 use keyvalues::refusal::Refusal;
 use keyvalues::tables::TableWords;
+use mapparts::writer;
 use mapparts::writer::Writer;
 
 // The tables and the first `count` kept calls as a map file, from the front of the output. Answers its length; refused, the
@@ -46,7 +47,7 @@ pub fn write_map(
 {
     let written = write_or_scratch(kept, count, tables, output);
     if written.is_err() {
-        output.fill(0);
+        writer::clear_all(output);
     }
     written
 }

@@ -20,4 +20,4 @@ returns-then-is_err-clause-sent c =
     let room = c.min-room.result in
     let l : length (take room o) ≡ min (length o) 65536 = omega (arith, length-take room o, c.min-room.ensures) in
     let k : length (c.play-written.new.out ++ drop room o) ≡ length o = omega (arith, length-append c.play-written.new.out (drop room o), c.play-written.auto.out, length-take room o, length-drop room o, c.min-room.ensures) in
-    told_zeros (run c.args.map.now c.args.keys.now c.args.budget (length o)) o _ _ (c.play-written.ensures (length o) l).0 (sym c.is_err.ensures.value ∙ c.if-is_err.true) (c.fill.ensures.after (λ y e. e) ∙ ap (λ n. replicate n 0) k)
+    told_zeros (run c.args.map.now c.args.keys.now c.args.budget (length o)) o _ _ (c.play-written.ensures (length o) l).0 (sym c.is_err.ensures.value ∙ c.if-is_err.true) (c.clear_all.ensures ∙ ap (λ n. replicate n 0) k)

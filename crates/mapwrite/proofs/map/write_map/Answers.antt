@@ -10,4 +10,4 @@ pub returns-else-is_err-clause-sent : goal.returns-else-is_err-clause-sent
 returns-else-is_err-clause-sent c = sent_told (tables_of c.args.tables.now) (kept_in c.args.count c.args.kept.now) c.args.output.now _ _ c.write_or_scratch-written.ensures.wrote (sym c.is_err.ensures.value ∙ c.if-is_err.false)
 
 pub returns-then-is_err-clause-sent : goal.returns-then-is_err-clause-sent
-returns-then-is_err-clause-sent c = sent_zeros (tables_of c.args.tables.now) (kept_in c.args.count c.args.kept.now) c.args.output.now _ _ _ c.write_or_scratch-written.ensures.wrote (sym c.is_err.ensures.value ∙ c.if-is_err.true) (c.fill.ensures.after (λ y e. e) ∙ ap (λ n. replicate n 0) c.write_or_scratch-written.auto.output)
+returns-then-is_err-clause-sent c = sent_zeros (tables_of c.args.tables.now) (kept_in c.args.count c.args.kept.now) c.args.output.now _ _ _ c.write_or_scratch-written.ensures.wrote (sym c.is_err.ensures.value ∙ c.if-is_err.true) (c.clear_all.ensures ∙ ap (λ n. replicate n 0) c.write_or_scratch-written.auto.output)
